@@ -1,0 +1,3 @@
+pub mod StepCounts
+pub mod DeCasteljau
+pub mod Chords

@@ -1,0 +1,3 @@
+pub mod Cubic
+pub mod DeCasteljau
+pub mod Sample

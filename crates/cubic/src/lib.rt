@@ -1,0 +1,13 @@
+// Cubic Bézier curves, after 000 (bezier.rs): a curve is its four control points.
+mod sampling;
+mod subdivision;
+
+pub use sampling::cubic_at;
+pub use sampling::deriv_at;
+pub use sampling::sample;
+pub use sampling::step_at;
+pub use sampling::steps;
+pub use sampling::straight;
+pub use subdivision::split_cubic;
+pub use subdivision::subsegment;
+pub use subdivision::Halves;

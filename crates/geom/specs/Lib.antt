@@ -1,0 +1,4 @@
+pub mod Point
+pub mod Flat
+pub mod Affine
+pub mod Box

@@ -1,0 +1,4 @@
+pub mod Limits
+pub mod Signs
+pub mod Sums
+pub mod Tables

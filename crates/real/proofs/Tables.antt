@@ -1,0 +1,85 @@
+-- A table of running sums of lengths never falls, whatever the numbers, NaN among them: a length is a NaN or not negative, and after a NaN
+-- every sum is a NaN. So the first entry not below s is the count of those below, for any length of the table and any s. Assumes nothing.
+use mathlib.Core.Path.{_≡_, sym, subst}
+use mathlib.Core.Bool.{Bool, true, false, not}
+use Prim.Native.Nat.{ℕ, zero, suc, _*_, _/_, _^_}
+use lib.Dec.{T}
+use lib.Ieee.{Float, nan, inf, fin, binary64, ofBits, up, down, isNan, add, mul, lt, fits}
+use lib.Ieee.Fits.{add-fits}
+use lib.Ieee.Bits.{ofBits-fits, is-true}
+use Rattle.root.specs.Root.{rootOf, rooted, isqrt, twice}
+use Rattle.root.specs.Sign.{nonneg}
+use Rattle.views.specs.Search.{firstFalse, count}
+use Rattle.views.proofs.Searches.{first-count}
+use Rattle.real.proofs.Sums.{round-nonneg, add-nonneg, add-grows, below-trans, square-nonneg}
+use Rattle.real.specs.Operators.{_⊕_, _⊗_}
+use Rattle.real.specs.Sums.{running}
+
+-- a NaN, or not negative
+pub data Rising : Float → Type 0 where
+  none : Rising nan
+  some : {x : Float} → T (nonneg x) → Rising x
+
+pub square-rises : (x : Float) → Rising (x ⊗ x)
+unfolding mul isNan
+square-rises nan = none
+square-rises (inf s) = some (square-nonneg binary64 (inf s) tt)
+square-rises (fin s m e) = some (square-nonneg binary64 (fin s m e) tt)
+
+pub sum-rises : (x y : Float) → Rising x → Rising y → Rising (x ⊕ y)
+unfolding add
+sum-rises x y none q = none
+sum-rises x y (some p) none = nothing x
+  where
+    nothing : (x : Float) → Rising (add binary64 x nan)
+    nothing nan = none
+    nothing (inf s) = none
+    nothing (fin s m e) = none
+sum-rises x y (some p) (some q) = some (add-nonneg binary64 x y p q)
+
+pub root-rises : (x : Float) → Rising x → Rising (rootOf x)
+unfolding rootOf rooted
+root-rises x none = none
+root-rises x (some p) = go x p
+  where
+    go : (x : Float) → T (nonneg x) → Rising (rootOf x)
+    go nan p = absurd p
+    go (inf true) p = absurd p
+    go (inf false) p = some tt
+    go (fin true m e) p = absurd p
+    go (fin false zero e) p = some tt
+    go (fin false (suc m) e) p = some (round-nonneg binary64 (twice (suc m * up e * 4 ^ 1074 / down e) (isqrt (suc m * up e * 4 ^ 1074 / down e))) (2 * 2 ^ 1074))
+
+-- what is below s after one more is below s before
+below-add : (x y s : Float) → T (fits binary64 x) → Rising x → Rising y → T (lt (add binary64 x y) s) → T (lt x s)
+unfolding add lt
+below-add x y s t none q h = h
+below-add x y s t (some p) none h = absurd (nothing x h)
+  where
+    nothing : (x : Float) → T (lt (add binary64 x nan) s) → ⊥
+    nothing nan h = h
+    nothing (inf b) h = h
+    nothing (fin b m e) h = h
+below-add x y s t (some p) (some q) h = below-trans x (add binary64 x y) s p (add-nonneg binary64 x y p q) (add-grows binary64 x y t p q) h
+
+module _ (f : ℕ → Float) (rising : (k : ℕ) → Rising (f k)) where
+  run-fits : (k : ℕ) → T (fits binary64 (running f k))
+  unfolding running
+  run-fits zero = ofBits-fits binary64 0
+  run-fits (suc k) = add-fits binary64 (running f k) (f k)
+
+  run-rises : (k : ℕ) → Rising (running f k)
+  unfolding running ofBits
+  run-rises zero = some tt
+  run-rises (suc k) = sum-rises (running f k) (f k) (run-rises k) (rising k)
+
+  is : (b : Bool) → b ≡ true → T b
+  is true e = tt
+  is false e = subst T (sym e) tt
+
+  back : (s : Float) (k : ℕ) → lt (running f (suc k)) s ≡ true → lt (running f k) s ≡ true
+  unfolding running
+  back s k e = is-true _ (below-add (running f k) (f k) s (run-fits k) (run-rises k) (rising k) (is _ e))
+
+  pub first-is-count : (n : ℕ) (s : Float) → firstFalse (λ k. lt (running f k) s) n ≡ count (λ k. lt (running f k) s) n
+  first-is-count n s = first-count (λ k. lt (running f k) s) n (λ k l e. back s k e)

@@ -1,0 +1,4 @@
+pub mod Operators
+pub mod StandIns
+pub mod Limit
+pub mod Sums

@@ -1,0 +1,82 @@
+-- Laws of the searches. Assumes nothing.
+use mathlib.Core.Path.{_≡_, refl, sym, ap, _∙_}
+use mathlib.Core.Bool.{Bool, true, false, _&&_, cond}
+use Prim.Native.Nat.{ℕ, zero, suc, _+_, _<_, zero-le, suc-le-suc}
+use native.Mathlib.Nat.{le-of-suc-le-suc, not-suc-le-zero, le-refl, lt-trans, suc-add, add-zero}
+use native.Mathlib.Numerals.{add-one}
+use Rattle.views.specs.Search.{all, firstFalse, count}
+
+pub all-true : (p : ℕ → Bool) (n : ℕ) → ((k : ℕ) → k < n → p k ≡ true) → all p n ≡ true
+unfolding all
+all-true p zero h = refl
+all-true p (suc n) h = rw (h zero (suc-le-suc zero-le)) (all-true (λ k. p (suc k)) n (λ k l. h (suc k) (suc-le-suc l)))
+
+pub and-false : (b : Bool) → (b && false) ≡ false
+and-false true = refl
+and-false false = refl
+
+pub all-false : (p : ℕ → Bool) (n k : ℕ) → k < n → p k ≡ false → all p n ≡ false
+unfolding all
+all-false p zero k l e = absurd (not-suc-le-zero l)
+all-false p (suc n) zero l e = rw e
+all-false p (suc n) (suc k) l e = rw (all-false (λ j. p (suc j)) n k (le-of-suc-le-suc l) e) (and-false (p zero))
+
+pub first-all : (p : ℕ → Bool) (n : ℕ) → ((k : ℕ) → k < n → p k ≡ true) → firstFalse p n ≡ n
+unfolding firstFalse
+first-all p zero h = refl
+first-all p (suc n) h = rw (h zero (suc-le-suc zero-le), first-all (λ k. p (suc k)) n (λ k l. h (suc k) (suc-le-suc l)))
+
+pub first-at : (p : ℕ → Bool) (n k : ℕ) → k < n → ((j : ℕ) → j < k → p j ≡ true) → p k ≡ false → firstFalse p n ≡ k
+unfolding firstFalse
+first-at p zero k l h e = absurd (not-suc-le-zero l)
+first-at p (suc n) zero l h e = rw e
+first-at p (suc n) (suc k) l h e =
+    rw (h zero (suc-le-suc zero-le), first-at (λ j. p (suc j)) n k (le-of-suc-le-suc l) (λ j m. h (suc j) (suc-le-suc m)) e)
+
+-- ---- where no place passes after one that does not, the first that does not is the count of those that do
+count-none : (p : ℕ → Bool) (n : ℕ) → ((k : ℕ) → k < n → p k ≡ false) → count p n ≡ 0
+unfolding count
+count-none p zero h = refl
+count-none p (suc n) h = rw (h zero (suc-le-suc zero-le)) (count-none (λ k. p (suc k)) n (λ k l. h (suc k) (suc-le-suc l)))
+
+fall : (a b : Bool) → (b ≡ true → a ≡ true) → a ≡ false → b ≡ false
+fall a true h e = sym (h refl) ∙ e
+fall a false h e = refl
+
+stays : (p : ℕ → Bool) (n : ℕ) → ((k : ℕ) → suc k < n → p (suc k) ≡ true → p k ≡ true) → p zero ≡ false → (k : ℕ) → k < n → p k ≡ false
+stays p n h e zero l = e
+stays p n h e (suc k) l = fall (p k) (p (suc k)) (h k l) (stays p n h e k (lt-trans (lt-add-one' k) l))
+  where
+    lt-add-one' : (k : ℕ) → k < suc k
+    lt-add-one' k = le-refl (suc k)
+
+pub first-count : (p : ℕ → Bool) (n : ℕ) → ((k : ℕ) → suc k < n → p (suc k) ≡ true → p k ≡ true) → firstFalse p n ≡ count p n
+unfolding firstFalse count
+first-count p zero h = refl
+first-count p (suc n) h = go (p zero) refl (first-count (λ k. p (suc k)) n (λ k l. h (suc k) (suc-le-suc l)))
+  where
+    go : (b : Bool) → p zero ≡ b → firstFalse (λ k. p (suc k)) n ≡ count (λ k. p (suc k)) n
+        → cond b (suc (firstFalse (λ k. p (suc k)) n)) zero ≡ cond b (suc (count (λ k. p (suc k)) n)) (count (λ k. p (suc k)) n)
+    go true e r = ap suc r
+    go false e r = sym (count-none (λ k. p (suc k)) n (λ k l. stays p (suc n) h e (suc k) (suc-le-suc l)))
+
+-- ---- one place more
+count-suc : (p : ℕ → Bool) (n : ℕ) → count p (suc n) ≡ count p n + cond (p n) 1 0
+unfolding count
+count-suc p zero = go (p zero)
+  where
+    go : (b : Bool) → cond b 1 0 ≡ 0 + cond b 1 0
+    go true = refl
+    go false = refl
+count-suc p (suc n) = go (p zero) (count-suc (λ k. p (suc k)) n)
+  where
+    go : (b : Bool) → count (λ k. p (suc k)) (suc n) ≡ count (λ k. p (suc k)) n + cond (p (suc n)) 1 0
+        → cond b (suc (count (λ k. p (suc k)) (suc n))) (count (λ k. p (suc k)) (suc n)) ≡ cond b (suc (count (λ k. p (suc k)) n)) (count (λ k. p (suc k)) n) + cond (p (suc n)) 1 0
+    go true e = ap suc e ∙ sym (suc-add (count (λ k. p (suc k)) n) (cond (p (suc n)) 1 0))
+    go false e = e
+
+pub count-more : (p : ℕ → Bool) (n : ℕ) → p n ≡ true → count p n + 1 ≡ count p (n + 1)
+count-more p n e = sym (ap (count p) (add-one n) ∙ count-suc p n ∙ ap (λ b. count p n + cond b 1 0) e)
+
+pub count-same : (p : ℕ → Bool) (n : ℕ) → p n ≡ false → count p n ≡ count p (n + 1)
+count-same p n e = sym (ap (count p) (add-one n) ∙ count-suc p n ∙ ap (λ b. count p n + cond b 1 0) e ∙ add-zero (count p n))
