@@ -32,7 +32,7 @@ units-nonneg f q k = go (ltb (q * 2 ^ k) (2 ^ (low f + suc (emax f))))
     go true = odd-nonneg (suc (prec f)) q k (low f)
     go false = tt
 
-pub round-nonneg : (f : Format) (a b : ℕ) → T (nonneg (round f false a b))
+round-nonneg : (f : Format) (a b : ℕ) → T (nonneg (round f false a b))
 unfolding round
 round-nonneg f a b = units-nonneg f _ _
 

@@ -2,16 +2,17 @@
 -- every sum is a NaN. So the first entry not below s is the count of those below, for any length of the table and any s. Assumes nothing.
 use mathlib.Core.Path.{_≡_, sym, subst}
 use mathlib.Core.Bool.{Bool, true, false, not}
-use Prim.Native.Nat.{ℕ, zero, suc, _*_, _/_, _^_}
+use Prim.Native.Nat.{ℕ, zero, suc}
 use lib.Dec.{T}
-use lib.Ieee.{Float, nan, inf, fin, binary64, ofBits, up, down, isNan, add, mul, lt, fits}
+use lib.Ieee.{Float, nan, inf, fin, binary64, ofBits, isNan, add, mul, lt, fits}
 use lib.Ieee.Fits.{add-fits}
 use lib.Ieee.Bits.{ofBits-fits, is-true}
-use Rattle.root.specs.Root.{rootOf, rooted, isqrt, twice}
+use Rattle.root.specs.Root.{rootOf}
 use Rattle.root.specs.Sign.{nonneg}
+use Rattle.root.proofs.Theorems.{root-nonneg}
 use Rattle.views.specs.Search.{firstFalse, count}
 use Rattle.views.proofs.Searches.{first-count}
-use Rattle.real.proofs.Sums.{round-nonneg, add-nonneg, add-grows, below-trans, square-nonneg}
+use Rattle.real.proofs.Sums.{add-nonneg, add-grows, below-trans, square-nonneg}
 use Rattle.real.specs.Operators.{_⊕_, _⊗_}
 use Rattle.real.specs.Sums.{running}
 
@@ -38,17 +39,9 @@ sum-rises x y (some p) none = nothing x
 sum-rises x y (some p) (some q) = some (add-nonneg binary64 x y p q)
 
 pub root-rises : (x : Float) → Rising x → Rising (rootOf x)
-unfolding rootOf rooted
+unfolding rootOf
 root-rises x none = none
-root-rises x (some p) = go x p
-  where
-    go : (x : Float) → T (nonneg x) → Rising (rootOf x)
-    go nan p = absurd p
-    go (inf true) p = absurd p
-    go (inf false) p = some tt
-    go (fin true m e) p = absurd p
-    go (fin false zero e) p = some tt
-    go (fin false (suc m) e) p = some (round-nonneg binary64 (twice (suc m * up e * 4 ^ 1074 / down e) (isqrt (suc m * up e * 4 ^ 1074 / down e))) (2 * 2 ^ 1074))
+root-rises x (some p) = some (root-nonneg x p)
 
 -- what is below s after one more is below s before
 below-add : (x y s : Float) → T (fits binary64 x) → Rising x → Rising y → T (lt (add binary64 x y) s) → T (lt x s)

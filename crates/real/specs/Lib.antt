@@ -1,4 +1,5 @@
 pub mod Operators
 pub mod StandIns
 pub mod Limit
+pub mod Finite
 pub mod Sums

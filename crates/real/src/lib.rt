@@ -2,6 +2,7 @@
 ghost use mathlib.Core.Path.{_≡_};
 ghost use Rattle.real.specs.StandIns.{max, min, clamp, abs};
 ghost use Rattle.real.specs.Limit.{inLimit};
+ghost use Rattle.real.specs.Finite.{isFinite};
 
 // a where b < a, else b: a NaN on either side gives b.
 pub fn max(a: f64, b: f64) -> f64
@@ -48,4 +49,13 @@ pub fn in_limit(x: f64) -> bool
     ensures { λ r. ⌜ r ≡ inLimit x ⌝ }
 {
     -131072.0 <= x && x <= 131072.0
+}
+
+// Whether x is neither an infinity nor a NaN.
+pub fn is_finite(x: f64) -> bool
+    ensures { λ r. ⌜ r ≡ isFinite x ⌝ }
+{
+    let low = f64::from_bits(0xfff0_0000_0000_0000);
+    let high = f64::from_bits(0x7ff0_0000_0000_0000);
+    low < x && x < high
 }

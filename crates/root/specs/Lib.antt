@@ -1,9 +1,3 @@
 pub mod Root
-pub mod Vectors
-pub mod Whole
-pub mod Rooted
-pub mod Patterns
-pub mod Scaled
-pub mod Leading
 pub mod Nearest
 pub mod Sign

@@ -2,7 +2,7 @@
 use mathlib.Core.Path.{_≡_, refl, sym, ap, _∙_}
 use mathlib.Core.Logic.{_⊎_, inl, inr, ⊎-elim}
 use mathlib.Core.Bool.{Bool, true, false, cond}
-use mathlib.Core.List.{List, [], _∷_}
+use mathlib.Core.List.{List, [], _∷_, _++_}
 use Prim.Native.Nat.{ℕ, zero, suc, _+_, _≤_, _<_, zero-le, suc-le-suc}
 use native.Mathlib.Nat.{not-suc-le-zero, le-of-suc-le-suc}
 use native.Mathlib.Omega.{arith}
@@ -49,6 +49,12 @@ pub tabulate-cong : {A : Type 0} (n : ℕ) (f g : ℕ → A) → ((i : ℕ) → 
 unfolding tabulate
 tabulate-cong zero f g h = refl
 tabulate-cong (suc n) f g h = rw (h zero (suc-le-suc zero-le), tabulate-cong n (λ i. f (suc i)) (λ i. g (suc i)) (λ i l. h (suc i) (suc-le-suc l)))
+
+-- one entry more, at the end
+pub tabulate-more : {A : Type 0} (n : ℕ) (f : ℕ → A) → tabulate (suc n) f ≡ tabulate n f ++ f n ∷ []
+unfolding tabulate
+tabulate-more zero f = refl
+tabulate-more (suc n) f = ap (λ l. f zero ∷ l) (tabulate-more n (λ i. f (suc i)))
 
 module _ {A : Type 0} (d : A) (xs : List A) (k : ℕ) (v : A) where
   -- ---- a store: the view changes at one index

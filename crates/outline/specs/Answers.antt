@@ -1,0 +1,58 @@
+-- How the C interface hands over what a call answers: the refusal's number, 0 where accepted, and the words place, count, subpaths, recut. Assumes nothing.
+use Prim.Native.Nat.{ℕ}
+use mathlib.Core.List.{List, [], _∷_}
+use lib.Ieee.{Float}
+use Rattle.views.specs.View.{entry}
+use Rattle.geom.specs.declared.point.P.{P}
+use Rattle.geom.specs.Point.{point}
+use Rattle.cubic.specs.Cubic.{four}
+use Rattle.cubic_calls.specs.declared.answers.Number.{Number}
+use Rattle.cubic_calls.specs.declared.answers.Point.{Point}
+use Rattle.cubic_calls.specs.declared.answers.Filled.{Filled}
+use Rattle.cubic_calls.specs.declared.answers.Number.the-variants as number
+use Rattle.cubic_calls.specs.declared.answers.Point.the-variants as located
+use Rattle.cubic_calls.specs.declared.answers.Filled.the-variants as filled
+
+-- the control points of eight numbers
+abbrev pub curveOf : List Float → List P
+curveOf c = four (point (entry c 0) (entry c 1)) (point (entry c 2) (entry c 3)) (point (entry c 4) (entry c 5)) (point (entry c 6) (entry c 7))
+
+abbrev pub words : ℕ → ℕ → List ℕ
+words place count = place ∷ count ∷ 0 ∷ 0 ∷ []
+
+-- ---- a number
+unfoldable pub numberCode : Number → ℕ
+numberCode (number.Refused n place) = n
+numberCode (number.Accepted x) = 0
+
+unfoldable pub numberWords : Number → List ℕ
+numberWords (number.Refused n place) = words place 0
+numberWords (number.Accepted x) = words 0 0
+
+-- what *length holds afterwards
+unfoldable pub numberLeft : Number → Float → Float
+numberLeft (number.Refused n place) old = old
+numberLeft (number.Accepted x) old = x
+
+-- ---- a point
+unfoldable pub pointCode : Point → ℕ
+pointCode (located.Refused n place) = n
+pointCode (located.Accepted p) = 0
+
+unfoldable pub pointWords : Point → List ℕ
+pointWords (located.Refused n place) = words place 0
+pointWords (located.Accepted p) = words 0 1
+
+-- what point[2] holds afterwards
+unfoldable pub pointLeft : Point → List Float → List Float
+pointLeft (located.Refused n place) old = old
+pointLeft (located.Accepted p) old = p .x ∷ p .y ∷ []
+
+-- ---- points in lists
+unfoldable pub filledCode : Filled → ℕ
+filledCode (filled.Refused n place) = n
+filledCode (filled.Accepted count) = 0
+
+unfoldable pub filledWords : Filled → List ℕ
+filledWords (filled.Refused n place) = words place 0
+filledWords (filled.Accepted count) = words 0 count

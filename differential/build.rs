@@ -1,0 +1,53 @@
+//! Edits the original into `OUT_DIR` and links the library.
+
+mod edits;
+
+use edits::File;
+use std::path::{Path, PathBuf};
+use std::{env, fs};
+
+fn main() {
+    let here = PathBuf::from(env::var_os("CARGO_MANIFEST_DIR").expect("set by cargo"));
+    let out = PathBuf::from(env::var_os("OUT_DIR").expect("set by cargo"));
+    let files = [edits::bezier::FILE, edits::geom::FILE];
+    let original = find_original(&here, &files);
+    for file in &files {
+        let path = original.join(file.name);
+        println!("cargo:rerun-if-changed={}", path.display());
+        let text = fs::read_to_string(&path).unwrap_or_else(|e| panic!("{}: {e}", path.display()));
+        fs::write(out.join(file.name), file.edited(text)).expect("OUT_DIR can be written");
+    }
+    link(&here);
+}
+
+/// The folder of the original's files: in `ZIGZAG_SRC`, or else in `shared/` beside the repository.
+fn find_original(here: &Path, files: &[File]) -> PathBuf {
+    println!("cargo:rerun-if-env-changed=ZIGZAG_SRC");
+    let given = env::var_os("ZIGZAG_SRC").map(PathBuf::from);
+    let root = given.unwrap_or_else(|| here.join("../../shared/docs/src"));
+    [root.join("src"), root.clone()]
+        .into_iter()
+        .find(|folder| files.iter().all(|file| folder.join(file.name).is_file()))
+        .unwrap_or_else(|| {
+            panic!(
+                "no bezier.rs and geom.rs in {}: set ZIGZAG_SRC",
+                root.display()
+            )
+        })
+}
+
+/// Links liboutline.a, from the folder in `OUTLINE_LIB` or from the repository's target folder.
+fn link(here: &Path) {
+    println!("cargo:rerun-if-env-changed=OUTLINE_LIB");
+    let given = env::var_os("OUTLINE_LIB").map(PathBuf::from);
+    let folder = given.unwrap_or_else(|| here.join("../target/staticlib"));
+    let library = folder.join("liboutline.a");
+    assert!(
+        library.is_file(),
+        "no {}: run `rt staticlib outline` in the repository's root, or set OUTLINE_LIB",
+        library.display()
+    );
+    println!("cargo:rerun-if-changed={}", library.display());
+    println!("cargo:rustc-link-search=native={}", folder.display());
+    println!("cargo:rustc-link-lib=static=outline");
+}

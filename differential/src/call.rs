@@ -1,0 +1,61 @@
+//! A call of the library beside the original's function, and a run of generated cases over it.
+
+use crate::case::{Case, Lents};
+use crate::compare::{mismatch, Answered, Expected};
+use crate::family::Family;
+use crate::random::Random;
+use crate::refusal::{ACCEPTED, ARGUMENTS, OUTPUT, RESULT};
+use crate::report::Tally;
+
+pub struct Call {
+    pub name: &'static str,
+    /// What its cases are drawn from.
+    pub families: fn() -> Vec<Family>,
+    /// What they must come out in, each at least once.
+    pub outcomes: &'static [Family],
+    pub draw: fn(&mut Random) -> Case,
+    pub original: fn(&Case) -> Answered,
+    pub library: fn(&Case, &mut Lents) -> u32,
+}
+
+impl Call {
+    pub fn run(&self, cases: u64, random: &mut Random) -> Tally {
+        let drawn = (self.families)().into_iter();
+        let families = self.outcomes.iter().copied();
+        let families = families.chain(Case::ARGUMENTS).chain(drawn).collect();
+        let mut tally = Tally::new(self.name, families);
+        for _ in 0..cases {
+            let mut case = (self.draw)(random);
+            case.spoil(random);
+            let expected = Expected::of(&case, self.original);
+            case.families.push(outcome(&expected, case.is_short()));
+            tally.count(1, &case.families);
+            let mut lents = Lents::of(&case, random);
+            let refusal = (self.library)(&case, &mut lents);
+            if let Some(wrong) = mismatch(&expected, refusal, &lents) {
+                tally.fail(case.size(), || format!("{case}\n    {wrong}"));
+            }
+        }
+        tally
+    }
+}
+
+// A call may be refused 5 or 9 and be short of room too: 8 comes last.
+pub const ACCEPTS: Family = ("outcome", "accepted");
+pub const REFUSES_5: Family = ("outcome", "refused 5");
+pub const REFUSES_5_SHORT: Family = ("outcome", "refused 5, and short");
+pub const REFUSES_9: Family = ("outcome", "refused 9");
+pub const REFUSES_9_SHORT: Family = ("outcome", "refused 9, and short");
+pub const REFUSES_8: Family = ("outcome", "refused 8");
+
+fn outcome(expected: &Expected, short: bool) -> Family {
+    match (expected.refusal, short) {
+        (ACCEPTED, _) => ACCEPTS,
+        (ARGUMENTS, false) => REFUSES_5,
+        (ARGUMENTS, true) => REFUSES_5_SHORT,
+        (RESULT, false) => REFUSES_9,
+        (RESULT, true) => REFUSES_9_SHORT,
+        (OUTPUT, _) => REFUSES_8,
+        (other, _) => unreachable!("no refusal {other}"),
+    }
+}

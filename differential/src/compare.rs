@@ -1,0 +1,100 @@
+//! What a call must answer and leave in every lent bit, against what it did.
+
+use crate::case::{Case, Lents};
+use crate::guard::{Lent, Wrong};
+use crate::refusal::{in_limit, ACCEPTED, ARGUMENTS, OUTPUT, RESULT};
+use std::fmt::{Display, Formatter, Result};
+
+/// What the original answers.
+pub struct Answered {
+    pub count: u64,
+    pub lists: Vec<Vec<f64>>,
+}
+
+/// What the library must do.
+pub struct Expected {
+    pub refusal: u32,
+    /// place, count, subpaths, recut
+    pub answer: [u64; 4],
+    /// The bits written to each list of the result.
+    pub written: Vec<Vec<u64>>,
+}
+
+impl Expected {
+    /// In document 01's order: 5, 9, 8. The original is asked only where the arguments are good.
+    pub fn of(case: &Case, original: fn(&Case) -> Answered) -> Expected {
+        if !case.arguments_in_limit() {
+            return Expected::refused(ARGUMENTS);
+        }
+        let Answered { count, lists } = original(case);
+        if !lists.iter().flatten().all(|&x| in_limit(x)) {
+            return Expected::refused(RESULT);
+        }
+        let mut lent = lists.iter().zip(&case.rooms);
+        if lent.any(|(list, room)| room.lent < list.len()) {
+            return Expected::refused(OUTPUT);
+        }
+        let bits = |list: Vec<f64>| list.into_iter().map(f64::to_bits).collect();
+        Expected {
+            refusal: ACCEPTED,
+            answer: [0, count, 0, 0],
+            written: lists.into_iter().map(bits).collect(),
+        }
+    }
+
+    /// The place is 0, as in every refusal of a call without a path.
+    pub fn refused(refusal: u32) -> Expected {
+        Expected {
+            refusal,
+            answer: [0; 4],
+            written: Vec::new(),
+        }
+    }
+}
+
+#[derive(Clone, Copy, Debug, PartialEq)]
+pub enum Buffer {
+    Given,
+    Result(usize),
+    Answer,
+}
+
+#[derive(Debug, PartialEq)]
+pub enum Mismatch {
+    Refusal { expected: u32, got: u32 },
+    Word(Buffer, Wrong),
+}
+
+/// The first thing that is not as it must be.
+pub fn mismatch(expected: &Expected, refusal: u32, lents: &Lents) -> Option<Mismatch> {
+    if refusal != expected.refusal {
+        return Some(Mismatch::Refusal {
+            expected: expected.refusal,
+            got: refusal,
+        });
+    }
+    let wrong = |buffer: Buffer, lent: &Lent, written: &[u64]| {
+        Some(Mismatch::Word(buffer, lent.wrong(written)?))
+    };
+    wrong(Buffer::Answer, &lents.answer, &expected.answer)
+        .or_else(|| {
+            let mut results = lents.results.iter().enumerate();
+            results.find_map(|(list, lent)| {
+                let written = expected.written.get(list).map_or(&[][..], |bits| bits);
+                wrong(Buffer::Result(list), lent, written)
+            })
+        })
+        .or_else(|| wrong(Buffer::Given, &lents.given, &[]))
+}
+
+impl Display for Mismatch {
+    fn fmt(&self, f: &mut Formatter) -> Result {
+        match self {
+            Mismatch::Refusal { expected, got } => write!(f, "refusal {got}, not {expected}"),
+            Mismatch::Word(buffer, Wrong { at, expected, got }) => write!(
+                f,
+                "{buffer:?}: word {at} is {got:#018x}, not {expected:#018x}"
+            ),
+        }
+    }
+}

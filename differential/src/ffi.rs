@@ -1,0 +1,74 @@
+//! The library, as include/outline.h declares it. The wrappers are safe: a slice brings its length,
+//! and a mutable reference overlaps nothing.
+
+use crate::curves::Flat;
+
+/// `outline_answer`: place, count, subpaths, recut.
+pub type Answer = [u64; 4];
+
+extern "C" {
+    fn outline_root(x: f64) -> f64;
+
+    fn outline_len(x: f64, y: f64, length: *mut f64, answer: *mut Answer) -> u32;
+
+    fn outline_cubic_at(c: *const Flat, t: f64, point: *mut [f64; 2], answer: *mut Answer) -> u32;
+
+    fn outline_sample(
+        c: *const Flat,
+        n: usize,
+        out: *mut f64,
+        out_len: usize,
+        answer: *mut Answer,
+    ) -> u32;
+
+    fn outline_split_cubic(
+        c: *const Flat,
+        t: f64,
+        before: *mut f64,
+        before_len: usize,
+        after: *mut f64,
+        after_len: usize,
+        answer: *mut Answer,
+    ) -> u32;
+
+    fn outline_subsegment(
+        c: *const Flat,
+        from: f64,
+        to: f64,
+        out: *mut f64,
+        out_len: usize,
+        answer: *mut Answer,
+    ) -> u32;
+}
+
+pub fn root(x: f64) -> f64 {
+    unsafe { outline_root(x) }
+}
+
+pub fn len(x: f64, y: f64, length: &mut f64, answer: &mut Answer) -> u32 {
+    unsafe { outline_len(x, y, length, answer) }
+}
+
+pub fn cubic_at(c: &Flat, t: f64, point: &mut [f64; 2], answer: &mut Answer) -> u32 {
+    unsafe { outline_cubic_at(c, t, point, answer) }
+}
+
+pub fn sample(c: &Flat, n: usize, out: &mut [f64], answer: &mut Answer) -> u32 {
+    unsafe { outline_sample(c, n, out.as_mut_ptr(), out.len(), answer) }
+}
+
+pub fn split_cubic(
+    c: &Flat,
+    t: f64,
+    before: &mut [f64],
+    after: &mut [f64],
+    answer: &mut Answer,
+) -> u32 {
+    let (before, before_len) = (before.as_mut_ptr(), before.len());
+    let (after, after_len) = (after.as_mut_ptr(), after.len());
+    unsafe { outline_split_cubic(c, t, before, before_len, after, after_len, answer) }
+}
+
+pub fn subsegment(c: &Flat, from: f64, to: f64, out: &mut [f64], answer: &mut Answer) -> u32 {
+    unsafe { outline_subsegment(c, from, to, out.as_mut_ptr(), out.len(), answer) }
+}

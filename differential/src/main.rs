@@ -1,0 +1,95 @@
+//! The differential test: the library against the original, with document 01's stand-ins put into
+//! the latter, bit by bit. `cargo run --release -- run` from this folder; `bench` measures speed.
+
+mod bench;
+mod call;
+mod case;
+mod compare;
+mod cubics;
+mod curves;
+mod family;
+mod ffi;
+mod guard;
+mod original;
+mod parameters;
+mod random;
+mod refusal;
+mod report;
+mod root;
+mod selftest;
+mod stand_ins;
+mod values;
+
+use random::Random;
+use std::process::ExitCode;
+use std::time::Instant;
+
+const USAGE: &str = "usage: differential run [--seed N] [--cases N] | selftest | bench";
+
+/// Cases of each call, where none are given.
+const CASES: u64 = 1_000_000;
+/// Patterns of each kind that `root` is given, for each case of another call: it is quick, and every
+/// length rests on it.
+const ROOTS: u64 = 2;
+
+fn main() -> ExitCode {
+    let arguments: Vec<String> = std::env::args().skip(1).collect();
+    let arguments: Vec<&str> = arguments.iter().map(String::as_str).collect();
+    match arguments[..] {
+        ["run", ref options @ ..] => match parse(options) {
+            Some((seed, cases)) => run(seed, cases),
+            None => usage(),
+        },
+        ["selftest"] => {
+            selftest::run(&mut Random::new(1));
+            println!("selftest passed");
+            ExitCode::SUCCESS
+        }
+        ["bench"] => {
+            bench::run(&mut Random::new(1));
+            ExitCode::SUCCESS
+        }
+        _ => usage(),
+    }
+}
+
+fn parse(mut options: &[&str]) -> Option<(u64, u64)> {
+    let (mut seed, mut cases) = (1, CASES);
+    while let [name, value, rest @ ..] = options {
+        match *name {
+            "--seed" => seed = value.parse().ok()?,
+            "--cases" => cases = value.parse().ok()?,
+            _ => return None,
+        }
+        options = rest;
+    }
+    options.is_empty().then_some((seed, cases))
+}
+
+fn usage() -> ExitCode {
+    eprintln!("{USAGE}");
+    ExitCode::FAILURE
+}
+
+fn run(seed: u64, cases: u64) -> ExitCode {
+    let start = Instant::now();
+    let mut random = Random::new(seed);
+    selftest::run(&mut random);
+    let mut passed = true;
+    let mut tell = |tally: report::Tally| {
+        tally.print();
+        passed &= tally.passed();
+    };
+    tell(root::run(ROOTS * cases, &mut random));
+    for call in &cubics::CALLS {
+        tell(call.run(cases, &mut random));
+    }
+    let seconds = start.elapsed().as_secs_f64();
+    let verdict = if passed { "passed" } else { "FAILED" };
+    println!("{verdict}: seed {seed}, {cases} cases of each call, {seconds:.1} seconds");
+    if passed {
+        ExitCode::SUCCESS
+    } else {
+        ExitCode::FAILURE
+    }
+}

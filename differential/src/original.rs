@@ -1,0 +1,14 @@
+//! The original, documents 000 and 001, as build.rs edits them: with document 01's stand-ins, and
+//! without what document 01 leaves out.
+
+/// Document 000.
+#[allow(dead_code, clippy::all)]
+pub mod bezier {
+    include!(concat!(env!("OUT_DIR"), "/bezier.rs"));
+}
+
+/// Document 001.
+#[allow(dead_code, clippy::all)]
+pub mod geom {
+    include!(concat!(env!("OUT_DIR"), "/geom.rs"));
+}

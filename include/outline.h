@@ -1,0 +1,67 @@
+/* The C interface of the outline core: C99, no allocation, no global state, no pointer kept after a call returns.
+ *
+ * What the caller owes, and nothing checks: every pointer is valid for the length that stands beside it (or in its
+ * declaration), aligned for its type, and what a call writes to overlaps nothing else that is lent to it. The processor
+ * rounds to nearest, ties to even, and does not flush subnormal numbers, as on any thread that has changed neither.
+ * A length is in entries of its type, not in bytes. A buffer of length 0 still needs a pointer that is not null.
+ *
+ * Every call returns a refusal, or OUTLINE_ACCEPTED. Where it refuses, nothing that is lent changes except *answer.
+ * Where it accepts, entries past the result keep their bits. */
+#ifndef OUTLINE_H
+#define OUTLINE_H
+
+#include <stddef.h>
+#include <stdint.h>
+
+#ifdef __cplusplus
+extern "C" {
+#endif
+
+/* Why a call was refused, in document 01's numbers, and in the order in which every call tests: 7, 5, 6, 10, 9, 8. */
+enum outline_refusal {
+    OUTLINE_ACCEPTED = 0,
+    OUTLINE_LISTS = 7,      /* too many subpaths or anchors, or a list too short for its shape */
+    OUTLINE_ARGUMENTS = 5,  /* a number given is not finite, or of magnitude above 131,072 */
+    OUTLINE_REFERENCE = 6,  /* no such subpath, anchor or segment */
+    OUTLINE_CAPACITY = 10,  /* the result would pass 512 anchors */
+    OUTLINE_RESULT = 9,     /* a number of the result is not finite, or of magnitude above 131,072 */
+    OUTLINE_OUTPUT = 8      /* a buffer lent for the result is too short */
+};
+
+/* What a call answers beside its number. Every call writes all four words, 0 where one says nothing. */
+typedef struct outline_answer {
+    uint64_t place;     /* of a refusal */
+    uint64_t count;     /* points, anchors or bytes of the result */
+    uint64_t subpaths;  /* subpaths of the result */
+    uint64_t recut;     /* places that an edit recut */
+} outline_answer;
+
+/* The square root of x, IEEE 754 squareRoot, to nearest with ties to even; a NaN's sign and payload are not specified. */
+double outline_root(double x);
+
+/* The length of the vector (x, y), to *length. Refuses 5, 9. */
+uint32_t outline_len(double x, double y, double *length, outline_answer *answer);
+
+/* A cubic is its four control points: c0.x, c0.y, c1.x, c1.y, c2.x, c2.y, c3.x, c3.y. */
+
+/* The point of the cubic at t. count is 1. Refuses 5, 9. */
+uint32_t outline_cubic_at(const double c[8], double t, double point[2], outline_answer *answer);
+
+/* The points of n equal steps (one step along a straight line, at least one, at most 256), x before y.
+ * count is the number of points, at most n + 1; out needs two entries for each. Refuses 5, 9, 8. */
+uint32_t outline_sample(const double c[8], size_t n, double *out, size_t out_len, outline_answer *answer);
+
+/* The cubic before t and the cubic after it. Each list needs 8 entries; count is 4, the points in each.
+ * Refuses 5, 9, 8. */
+uint32_t outline_split_cubic(const double c[8], double t, double *before, size_t before_len,
+                             double *after, size_t after_len, outline_answer *answer);
+
+/* The part of the cubic between two parameters. out needs 8 entries; count is 4. Refuses 5, 9, 8. */
+uint32_t outline_subsegment(const double c[8], double from, double to, double *out, size_t out_len,
+                            outline_answer *answer);
+
+#ifdef __cplusplus
+}
+#endif
+
+#endif
