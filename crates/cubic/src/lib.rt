@@ -8,6 +8,6 @@ pub use sampling::sample;
 pub use sampling::step_at;
 pub use sampling::steps;
 pub use sampling::straight;
+pub use subdivision::Halves;
 pub use subdivision::split_cubic;
 pub use subdivision::subsegment;
-pub use subdivision::Halves;

@@ -36,10 +36,15 @@ loop-again : tie.Need-loop-again Inv-loop μ-loop
 loop-again c =
     let l = c .before .before .loop in
     let i = l .inv in
-    let room = i .3 in
-    (omega arith, i .1, i .2, simp length-set room, simp length-set (i .4),
+    let room = i .3 in (
+      omega arith,
+      i .1,
+      i .2,
+      simp length-set room,
+      simp length-set (i .4),
       store-more (l .out) (l .k) (c .step-at .result) (stepAt _ _) (omega arith) (i .5) (c .step-at .ensures),
-      store-keep (l .out) (l .k) (c .step-at .result) (c .before .before .before .before .before .args .out .now) (i .6))
+      store-keep (l .out) (l .k) (c .step-at .result) (c .before .before .before .before .before .args .out .now) (i .6),
+    )
 
 returns : tie.Need-returns Inv-loop μ-loop
 unfolding sampleCount

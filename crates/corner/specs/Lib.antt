@@ -1,0 +1,4 @@
+pub mod Side
+pub mod Arc
+pub mod Corner
+pub mod Cut

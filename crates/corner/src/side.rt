@@ -1,0 +1,102 @@
+// `Side`: a side of a corner, the segment from the corner to its neighbour, as a cubic leaving the corner.
+ghost use mathlib.Core.Path.{_≡_};
+ghost use Rattle.corner.specs.Side.{isStraightSide, unit, sideOf, direction, lengthOf, atLine, atLength};
+use crate::table::at_curve;
+use crate::table::curve_length;
+use geom::P;
+
+pub struct Side {
+    pub c: [P; 4],
+}
+
+// The unit direction in which a side leaves its corner, if it has one.
+pub enum Direction {
+    Along(P),
+    Nowhere,
+}
+
+// A length along a side: the parameter, the point there, and the direction in which the side runs on.
+pub struct At {
+    pub t: f64,
+    pub p: P,
+    pub dir: P,
+}
+
+// Both handles within 1e-9 of their ends.
+pub fn is_straight_side(c: [P; 4]) -> bool
+    ensures { λ r. ⌜ r ≡ isStraightSide c ⌝ }
+{
+    c[1].dist(c[0]) <= 1e-9 && c[2].dist(c[3]) <= 1e-9
+}
+
+// d made unit.
+pub fn unit(d: P) -> P
+    ensures { λ r. ⌜ r ≡ unit d ⌝ }
+{
+    d.mul(1.0 / d.len())
+}
+
+impl Side {
+    // The side with these control points, from the corner on.
+    pub fn of(a: P, b: P, c: P, d: P) -> Side
+        ensures { λ r. ⌜ r ≡ sideOf a b c d ⌝ }
+    {
+        Side { c: [a, b, c, d] }
+    }
+
+    // Towards the first of c1, c2, c3 that is farther than 1e-9 from c0.
+    pub fn direction(self) -> Direction
+        ensures { λ r. ⌜ r ≡ direction self ⌝ }
+    {
+        let c = self.c;
+        for k in 1..4 {
+            let d = c[k].sub(c[0]);
+            if path::beyond(d) {
+                return Direction::Along(unit(d));
+            }
+        }
+        Direction::Nowhere
+    }
+
+    // The distance of the ends where the side is straight, else the sum of 128 chords.
+    pub fn length(self) -> f64
+        ensures { λ r. ⌜ r ≡ lengthOf 128 self ⌝ }
+    {
+        let c = self.c;
+        if is_straight_side(c) {
+            return c[0].dist(c[3]);
+        }
+        curve_length(c)
+    }
+
+    // The place s along the side from the corner; u is the direction in which the side leaves.
+    pub fn at_length(self, s: f64, u: P) -> At
+        ensures { λ r. ⌜ r ≡ atLength 128 self s u ⌝ }
+    {
+        let c = self.c;
+        if is_straight_side(c) {
+            return at_line(c, s, u);
+        }
+        at_curve(c, s, u)
+    }
+}
+
+// The same on a straight side.
+fn at_line(c: [P; 4], s: f64, u: P) -> At
+    ensures { λ r. ⌜ r ≡ atLine c s u ⌝ }
+{
+    let len = c[0].dist(c[3]);
+    let p = c[0].add(u.mul(s));
+    if 1e-9 < len {
+        return At {
+            t: real::clamp(s / len, 0.0, 1.0),
+            p: p,
+            dir: u,
+        };
+    }
+    At {
+        t: 0.0,
+        p: p,
+        dir: u,
+    }
+}

@@ -1,0 +1,4 @@
+pub mod Shapes
+pub mod Places
+pub mod Limits
+pub mod Distances

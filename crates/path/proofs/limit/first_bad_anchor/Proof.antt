@@ -1,0 +1,117 @@
+-- `path::limit::first_bad_anchor` meets its contract: the places passed are good, and the one it stops at is not. Assumes nothing.
+use Prim.Native.Nat.{ℕ, _≤_, _<_, _+_, _-_, _*_}
+use mathlib.Core.Path.{_≡_, refl, sym, _∙_}
+use mathlib.Core.Bool.{true}
+use borrow.Author.Needs.{needs}
+use borrow.Author.Count.{below-none, below-more}
+use borrow.Author.Tests.{not-true, not-false}
+use native.Mathlib.Omega.{arith}
+use lib.ListN.{length}
+use Rattle.views.specs.View.{entry}
+use Rattle.real.specs.Limit.{inLimit}
+use Rattle.path.specs.Shape.{total, start}
+use Rattle.path.specs.Limit.{anchorIn}
+use Rattle.path.specs.declared.limit.Found.the-variants.{Nothing}
+use Rattle.path.proofs.Shapes.{total-next, total-in, total-end}
+use Rattle.path.proofs.Limits.{GoodBelow, first-is, none-is, anchor-in, anchor-out}
+use Rattle.path.proofs.limit.first_bad_anchor.Statement.{statement}
+use Rattle.path.proofs.limit.first_bad_anchor.Tie as tie
+
+-- the numbers of place k below number i are in limit
+abbrev Inv-loop2 : tie.InvT-loop2
+Inv-loop2 shapes anchors k found₀ s j i₀ s-end j-end found i =
+    (i ≤ 6) × (found ≡ Nothing) × (k < total shapes) × ((q : ℕ) → q < i → inLimit (entry anchors (k * 6 + q)) ≡ true)
+
+abbrev μ-loop2 : tie.MeasureT-loop2
+μ-loop2 shapes anchors k found₀ s j i₀ s-end j-end found i = 6 - i
+
+-- k is the place of anchor j of subpath s, and the places below k are good
+abbrev Inv-loop : tie.InvT-loop
+Inv-loop shapes anchors k₀ found₀ s j₀ s-end j-end k found j =
+    (j ≤ j-end) × (k ≡ k₀ + j) × (found ≡ Nothing) × (k₀ + j-end ≤ total shapes) × GoodBelow (anchorIn anchors) k
+
+abbrev μ-loop : tie.MeasureT-loop
+μ-loop shapes anchors k₀ found₀ s j₀ s-end j-end k found j = j-end - j
+
+-- k is the place where subpath s starts
+abbrev Inv-path : tie.InvT-path
+Inv-path shapes anchors k₀ found₀ s₀ s-end k found s =
+    (s ≤ length shapes) × (s-end ≡ length shapes) × (k ≡ start shapes s) × (found ≡ Nothing) × GoodBelow (anchorIn anchors) k
+
+abbrev μ-path : tie.MeasureT-path
+μ-path shapes anchors k₀ found₀ s₀ s-end k found s = length shapes - s
+
+path-holds : tie.Need-path-holds Inv-loop2 μ-loop2 Inv-loop μ-loop Inv-path μ-path
+path-holds c = (search needs, search needs, refl, refl, below-none _)
+
+loop-holds : tie.Need-loop-holds Inv-loop2 μ-loop2 Inv-loop μ-loop Inv-path μ-path
+loop-holds c =
+    let p = c .before .before .before in
+    (omega arith, omega arith, p .path .inv .3, omega (arith, total-in (p .before .before .before .args .shapes .now) (p .path .s) (omega arith)), p .path .inv .4)
+
+loop2-holds : tie.Need-loop2-holds Inv-loop2 μ-loop2 Inv-loop μ-loop Inv-path μ-path
+loop2-holds c = (omega arith, c .before .loop .inv .2, omega arith, below-none _)
+
+loop2-again : tie.Need-loop2-again Inv-loop2 μ-loop2 Inv-loop μ-loop Inv-path μ-path
+loop2-again c =
+    let w = c .before .before .before .before .loop2 in
+    (omega arith, w .inv .1, w .inv .2, below-more _ _ (w .inv .3) (sym (c .before .in-limit .ensures) ∙ not-false _ (c .if1 .left)))
+
+loop-again : tie.Need-loop-again Inv-loop2 μ-loop2 Inv-loop μ-loop Inv-path μ-path
+loop-again c =
+    let w = c .before in
+    let l = w .before .before .loop in
+    (omega arith, omega arith, w .loop2 .inv .1, l .inv .3, below-more _ _ (l .inv .4) (anchor-in _ (l .k) (λ q h. w .loop2 .inv .3 q (omega arith))))
+
+path-again : tie.Need-path-again Inv-loop2 μ-loop2 Inv-loop μ-loop Inv-path μ-path
+path-again c =
+    let l = c .before .loop in
+    let p = c .before .before .before .before .before in
+    (omega arith, refl, omega (arith, total-next (p .before .before .before .args .shapes .now) (p .path .s) (omega arith)), l .inv .2, l .inv .4)
+
+returns : tie.Need-returns Inv-loop2 μ-loop2 Inv-loop μ-loop Inv-path μ-path
+returns c =
+    let p = c .before in
+    let end = total-end (p .before .before .before .args .shapes .now) (p .path .s) (omega arith) in
+    p .path .inv .3 ∙ sym (none-is _ _ .1 (λ j h. p .path .inv .4 j (omega (arith, end))))
+
+returns-2 : tie.Need-returns-2 Inv-loop2 μ-loop2 Inv-loop μ-loop Inv-path μ-path
+returns-2 c =
+    let w = c .before .before .before .before in
+    let l = w .before .before .loop in
+    let out = anchor-out _ (l .k) (w .loop2 .i) (omega arith) (sym (c .before .in-limit .ensures) ∙ not-true _ (c .if1 .taken)) in
+    sym (first-is _ _ _ .1 (record { place = w .loop2 .inv .2; bad = out; below = l .inv .4 }))
+
+pub first-bad-anchor-spec : {M : Type 1} → statement M
+first-bad-anchor-spec =
+    tie.close
+    (tie.spec
+    Inv-loop2
+    μ-loop2
+    Inv-loop
+    μ-loop
+    Inv-path
+    μ-path
+    path-holds
+    (λ c. search needs)
+    (λ c. search needs)
+    (λ c κs. tt)
+    loop-holds
+    loop2-holds
+    (λ c. search needs)
+    (λ c. search needs)
+    (λ c. search needs)
+    (λ c. search needs)
+    (λ c κs. tt)
+    (λ c. search needs)
+    (λ c. search needs)
+    loop2-again
+    (λ c. search needs)
+    (λ c. search needs)
+    (λ c. search needs)
+    loop-again
+    (λ c. search needs)
+    (λ c. search needs)
+    path-again
+    returns
+    returns-2)

@@ -1,0 +1,4 @@
+pub mod Anchor
+pub mod Flat
+pub mod Limit
+pub mod Shape
