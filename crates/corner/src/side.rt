@@ -26,7 +26,7 @@ pub struct At {
 pub fn is_straight_side(c: [P; 4]) -> bool
     ensures { λ r. ⌜ r ≡ isStraightSide c ⌝ }
 {
-    c[1].dist(c[0]) <= 1e-9 && c[2].dist(c[3]) <= 1e-9
+    path::within(c[1].sub(c[0])) && path::within(c[2].sub(c[3]))
 }
 
 // d made unit.
