@@ -4,7 +4,6 @@ ghost use Rattle.cubic_calls.specs.Calls.{lenAnswer, cubicAtAnswer, samp
 use crate::answers::Filled;
 use crate::answers::Number;
 use crate::answers::Point;
-use crate::limits::copy;
 use crate::limits::curve_in_limit;
 use crate::limits::numbers_in_limit;
 use crate::limits::point_in_limit;
@@ -55,7 +54,7 @@ pub fn sample(c: [P; 4], n: usize, out: &mut [f64]) -> Filled
     if out.len() < 2 * count {
         return Filled::Refused(refusal::OUTPUT, 0);
     }
-    copy(&points, 2 * count, out);
+    views::copy(&points, 2 * count, out);
     Filled::Accepted(count)
 }
 

@@ -39,16 +39,6 @@ pub fn numbers_in_limit(xs: &[f64], n: usize) -> bool
     true
 }
 
-// The first n numbers of one list into another.
-pub fn copy(from: &[f64], n: usize, to: &mut [f64])
-    requires { ⌜ (n ≤ length (now from)) × (n ≤ length (now to)) ⌝ }
-    ensures { λ _. ⌜ now (to .exit) ≡ overwrite n (entry (now (from .entry))) (now (to .entry)) ⌝ }
-{
-    for i in 0..n {
-        to[i] = from[i];
-    }
-}
-
 // The four control points, x before y.
 pub fn put_curve(c: [P; 4], to: &mut [f64])
     requires { ⌜ 8 ≤ length (now to) ⌝ }

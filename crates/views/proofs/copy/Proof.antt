@@ -1,4 +1,4 @@
--- `cubic_calls::limits::copy` meets its contract: the first i numbers are copied, and the rest is as it was. Assumes nothing.
+-- `views::copy` meets its contract: the first i numbers are copied, and the rest is as it was. Assumes nothing.
 use mathlib.Core.Path.{_≡_, refl}
 use Prim.Native.Nat.{ℕ, _-_, _≤_, _<_}
 use native.Mathlib.Omega.{arith}
@@ -6,10 +6,10 @@ use lib.ListN.{length, length-set}
 use lib.Ieee.{nan}
 use borrow.Author.Count.{below-none}
 use borrow.Author.Needs.{needs}
 use Rattle.views.specs.View.{entry}
 use Rattle.views.proofs.Laws.{fill-more, keep-more, as-overwrite}
-use Rattle.cubic_calls.proofs.limits.copy.Statement.{statement}
-use Rattle.cubic_calls.proofs.limits.copy.Tie as tie
+use Rattle.views.proofs.copy.Statement.{statement}
+use Rattle.views.proofs.copy.Tie as tie
 
 abbrev Inv-loop : tie.InvT-loop
 Inv-loop from n to₀ i₀ to i =
