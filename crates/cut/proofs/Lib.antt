@@ -1,0 +1,10 @@
+pub mod Steps
+pub mod HeldRows
+pub mod FoundCorners
+pub mod Ends
+pub mod Stages
+pub mod Whole
+pub mod Follow
+pub mod Locality
+pub mod Edits
+pub mod Outlines

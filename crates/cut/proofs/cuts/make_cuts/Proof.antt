@@ -1,0 +1,188 @@
+-- `cut::cuts::make_cuts` meets its contract: before index i the marks and cuts below it that are near are held. Assumes nothing.
+use mathlib.Core.Path.{_≡_, refl, sym, ap, ap₂, _∙_}
+use mathlib.Core.Bool.{true}
+use Prim.Native.Nat.{ℕ, _+_, _-_, _*_, _≤_, _<_}
+use native.Mathlib.Nat.{not-suc-le-zero}
+use native.Mathlib.Omega.{arith}
+use lib.Ieee.{Float, lt}
+use lib.ListN.{length, length-set, getD}
+use lib.Seq.{getD-set-same, getD-set-other}
+use borrow.Author.Count.{below-more}
+use borrow.Author.Needs.{needs}
+use borrow.Author.Tests.{not-true, not-false}
+use Rattle.views.specs.View.{entry}
+use Rattle.cubic.specs.Cubic.{CEPS}
+use Rattle.path.specs.Flat.{anchorAt}
+use Rattle.path.specs.Shape.{prev, next}
+use Rattle.corner.specs.declared.corner.Corner.{Corner}
+use Rattle.corner.specs.Cut.{cut}
+use Rattle.cut.specs.View.{View}
+use Rattle.cut.specs.Subpath.{viewOf}
+use Rattle.cut.specs.Near.{near}
+use Rattle.cut.specs.Places.{cornerAt, fittedAt, isCut, cutAt}
+use Rattle.cut.specs.Rows.{rowAt, fittedOf, cutRowAt, flagOf}
+use Rattle.cut.proofs.Steps.{not-both}
+use Rattle.cut.proofs.HeldRows.{at-put-cut, at-put-cut-other}
+use Rattle.cut.proofs.FoundCorners.{row-here, fitted-held}
+use Rattle.cut.proofs.cuts.make_cuts.Statement.{statement}
+use Rattle.cut.proofs.cuts.make_cuts.Tie as tie
+
+abbrev Inv-loop : tie.InvT-loop
+Inv-loop anchors radii kind sub w rows cuts₀ marks₀ first n i₀ cuts marks i =
+    (i ≤ n) × (length cuts ≡ length cuts₀) × (length marks ≡ length marks₀)
+    × (first + n ≤ 1024) × (first + n ≤ length radii) × (n * 7 ≤ length rows) × (n * 10 ≤ length cuts) × (n ≤ length marks)
+    × ((j : ℕ) → j < i → near (w .reach + 1) n (sub .closed) (w .at) j ≡ true
+    → getD marks j 0 ≡ flagOf (isCut (viewOf (anchorAt anchors) (entry radii) (λ k. kind) 128 sub) j))
+    × ((j : ℕ) → j < i → near (w .reach + 1) n (sub .closed) (w .at) j ≡ true → let v = viewOf (anchorAt anchors) (entry radii) (λ k. kind) 128 sub in isCut v j ≡ true
+    → cutRowAt cuts j ≡ cutAt v j)
+
+abbrev μ-loop : tie.MeasureT-loop
+μ-loop anchors radii kind sub w rows cuts₀ marks₀ first n i₀ cuts marks i = n - i
+
+loop-holds : tie.Need-loop-holds Inv-loop μ-loop
+loop-holds c =
+    let p = c .before .before .before .before .before .pre in
+    (omega arith, refl, refl, p .0 .0 .small, p .0 .2, p .1 .0 .0, p .1 .0 .1, p .1 .0 .2, λ j l. absurd (not-suc-le-zero l), λ j l. absurd (not-suc-le-zero l))
+
+loop-again : tie.Need-loop-again Inv-loop μ-loop
+loop-again c =
+    let n = c .before in
+    let i = n .before .before .before .loop .inv in
+    let e = sym (n .near .ensures) ∙ not-true _ (c .if1 .taken) in (
+      omega arith,
+      i .1,
+      i .2,
+      i .3,
+      i .4,
+      i .5,
+      i .6,
+      i .7,
+      below-more _ _ (i .8) (λ f. absurd (not-both _ e f)),
+      below-more _ _ (i .9) (λ f. absurd (not-both _ e f)),
+    )
+
+-- ---- what was computed at index i is what the definitions say
+abbrev at-index : tie.After-fitted-beside Inv-loop μ-loop → ℕ
+at-index c = c .before .before .before .before .before .before .before .before .loop .i
+
+abbrev view : tie.After-fitted-beside Inv-loop μ-loop → View
+view c =
+    let a = c .before .before .before .before .before .before .before .before .before .before .before .before .before .before .args in
+    viewOf (anchorAt (a .anchors .now)) (entry (a .radii .now)) (λ k. a .kind) 128 (a .sub)
+
+within : (c : tie.In-loop Inv-loop μ-loop) → c .before .loop .i < c .before .before .before .before .before .before .before .args .sub .n
+within c = omega arith
+
+close : (c : tie.After-fitted-beside Inv-loop μ-loop) →
+    let a = c .before .before .before .before .before .before .before .before .before .before .before .before .before .before .args in
+    near (a .w .reach + 1) (a .sub .n) (a .sub .closed) (a .w .at) (at-index c) ≡ true
+close c = let f = c .before .before .before .before in sym (f .before .near .ensures) ∙ not-false _ (f .if1 .left)
+
+corner-is : (c : tie.After-fitted-beside Inv-loop μ-loop) → c .before .before .corner-of-row .result ≡ cornerAt (view c) (at-index c)
+unfolding viewOf
+corner-is c =
+    let r = c .before .before in
+    let s = r .before .before .before .before .before .before .before .before .before .before .before .before in
+    let a = s .args in
+    r .corner-of-row .ensures (entry (a .radii .now)) (λ k. a .kind)
+    (r .before .row-at .ensures ∙ row-here (view c) (a .w .reach) (a .w .at) (a .rows .now) (s .pre .0 .1 .index) (at-index c) (within (c .before .before .before .before .before .before .before)) (close c) (s .pre .1 .1))
+
+fitted-is : (c : tie.After-fitted-beside Inv-loop μ-loop) → c .fitted-beside .result ≡ fittedAt (view c) (at-index c)
+unfolding viewOf
+fitted-is c =
+    let s = c .before .before .before .before .before .before .before .before .before .before .before .before .before .before in
+    let a = s .args in
+    c .fitted-beside .ensures
+    ∙ ap (λ (k : Corner). fittedOf k (entry (a .radii .now) (a .sub .first + at-index c)) (rowAt (a .rows .now) (prev (a .sub .n) (at-index c)) .asked) (rowAt (a .rows .now) (next (a .sub .n) (at-index c)) .asked)) (corner-is c)
+    ∙ fitted-held (view c) (a .w .reach) (a .w .at) (a .rows .now) (s .pre .0 .1 .index) (at-index c) (within (c .before .before .before .before .before .before .before)) (close c) (s .pre .1 .1)
+
+loop-again-2 : tie.Need-loop-again-2 Inv-loop μ-loop
+unfolding isCut
+loop-again-2 c =
+    let f = c .before in
+    let l = f .before .before .before .before .before .before .before .before .loop in
+    let i = l .inv in
+    let e = sym (ap (lt CEPS) (fitted-is f)) ∙ not-true _ (c .if2 .taken) in (
+      omega arith,
+      i .1,
+      simp length-set (i .2),
+      i .3,
+      i .4,
+      i .5,
+      i .6,
+      simp length-set (i .7),
+      below-more _ _ (λ j h k. getD-set-other (l .marks) (l .i) j 0 0 (λ s. omega arith) ∙ i .8 j h k) (λ k. getD-set-same (l .marks) (l .i) 0 0 (omega arith) ∙ sym (ap flagOf e)),
+      below-more _ _ (i .9) (λ k q. absurd (not-both _ e q)),
+    )
+
+loop-again-3 : tie.Need-loop-again-3 Inv-loop μ-loop
+unfolding isCut cutAt viewOf
+loop-again-3 c =
+    let p = c .before .before in
+    let k = p .before in
+    let t = k .before .before in
+    let f = t .before in
+    let l = f .before .before .before .before .before .before .before .before .loop in
+    let i = l .inv in
+    let b = within (f .before .before .before .before .before .before .before) in
+    let a = f .before .before .before .before .before .before .before .before .before .before .before .before .before .before .args in
+    let e = sym (ap (lt CEPS) (fitted-is f)) ∙ not-false _ (t .if2 .left) in (
+      omega arith,
+      p .put-cut-row .kept .0 ∙ i .1,
+      simp length-set (i .2),
+      i .3,
+      i .4,
+      i .5,
+      (let z = p .put-cut-row .kept .0 in omega arith),
+      simp length-set (i .7),
+      below-more _ _
+          (λ j h q. getD-set-other (l .marks) (l .i) j 2147483648 0 (λ s. omega arith) ∙ i .8 j h q)
+          (λ q. getD-set-same (l .marks) (l .i) 2147483648 0 (omega arith) ∙ sym (ap flagOf e)),
+      below-more _ _
+          (λ j h q o. ap (λ z. cutRowAt z j) (p .put-cut-row .ensures) ∙ at-put-cut-other (l .cuts) (l .i) (k .cut .result) j (λ s. omega arith) ∙ i .9 j h q o)
+          (λ q o.
+          ap (λ z. cutRowAt z (l .i)) (p .put-cut-row .ensures)
+          ∙ at-put-cut (l .cuts) (l .i) (k .cut .result) (omega arith)
+          ∙ k .cut .ensures
+          ∙ ap₂ (λ (x : Corner) (r : Float). cut 128 x r (a .kind)) (corner-is f) (fitted-is f)),
+    )
+
+returns : tie.Need-returns Inv-loop μ-loop
+unfolding viewOf
+returns c =
+    let i = c .before .loop .inv in
+    (i .1, (i .2, record { mark = λ j l e. i .8 j (omega arith) e; made = λ j l e q. i .9 j (omega arith) e q }))
+
+pub make-cuts-spec : {M : Type 1} → statement M
+make-cuts-spec =
+    tie.close
+    (tie.spec
+    Inv-loop
+    μ-loop
+    loop-holds
+    (λ c. search needs)
+    (λ c κs. search needs)
+    (λ c. search needs)
+    (λ c. search needs)
+    loop-again
+    (λ c κs. search needs)
+    (λ c κs. search needs)
+    (λ c. search needs)
+    (λ c. search needs)
+    (λ c. search needs)
+    (λ c κs. search needs)
+    (λ c. search needs)
+    (λ c. search needs)
+    (λ c. search needs)
+    (λ c. search needs)
+    loop-again-2
+    (λ c κs. tt)
+    (λ c κs. let l = c .before .before .before .before .before .before .before .before .before .before in let b = within l in let i = l .before .loop .inv in omega arith)
+    (λ c. let l = c .before .before .before .before .before .before .before .before .before .before .before .before .before in let b = within l in let i = l .before .loop .inv in omega arith)
+    (λ c. let l = c .before .before .before .before .before .before .before .before .before .before .before .before .before in let b = within l in let i = l .before .loop .inv in omega arith)
+    (λ c. let l = c .before .before .before .before .before .before .before .before .before .before .before .before .before in let b = within l in let i = l .before .loop .inv in omega arith)
+    (λ c. let l = c .before .before .before .before .before .before .before .before .before .before .before .before .before in let b = within l in let i = l .before .loop .inv in omega arith)
+    loop-again-3
+    (λ c. search needs)
+    (λ c. search needs)
+    returns)

@@ -1,0 +1,21 @@
+-- Steps between two anchors of a subpath of n, round the end where it is closed. Assumes nothing.
+use Prim.Native.Nat.{ℕ, _+_, _-_}
+use mathlib.Core.Bool.{Bool, _&&_, _||_, cond}
+use lib.Dec.{leb}
+use Rattle.views.specs.Search.{count}
+
+-- how far apart i and j are as indices, not round the end
+unfoldable pub gap : ℕ → ℕ → ℕ
+gap i j = i - j + (j - i)
+
+-- j is within k steps of i
+unfoldable pub near : ℕ → ℕ → Bool → ℕ → ℕ → Bool
+near k n closed i j = leb (gap i j) k || closed && leb n (gap i j + k)
+
+-- how many anchors are within k steps of i
+unfoldable pub nearCount : ℕ → ℕ → Bool → ℕ → ℕ
+nearCount k n closed i = count (near k n closed i) n
+
+-- where an anchor is put in after a, the index that j had before
+unfoldable pub old : ℕ → ℕ → ℕ
+old a j = cond (leb j a) j (j - 1)
