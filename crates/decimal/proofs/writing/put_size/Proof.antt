@@ -1,0 +1,26 @@
+-- `decimal::writing::put_size` meets its contract. Assumes nothing.
+use Prim.Native.Nat.{_/_, _≤_}
+use native.Mathlib.Omega.{arith}
+use lib.ListN.{length}
+use borrow.Author.Needs.{needs}
+use Rattle.decimal.specs.Text.{wholeText, sizeText}
+use Rattle.decimal.proofs.Puts.{then}
+use Rattle.decimal.proofs.Digits.{whole-room}
+use Rattle.decimal.proofs.writing.put_size.Statement.{statement}
+use Rattle.decimal.proofs.writing.put_size.Tie as tie
+
+room : (c : tie.Start) → length (wholeText (c .args .t / 1000)) ≤ 6
+room c = whole-room 5 (c .args .t / 1000) (omega arith)
+
+returns : tie.Need-returns
+unfolding sizeText
+returns c = then (c .before .before .before .before .before .before .put-whole .ensures) (c .before .before .put-fraction .ensures)
+
+pub put-size-spec : {M : Type 1} → statement M
+put-size-spec =
+    tie.close
+    (tie.spec
+    (λ c κs. omega (arith, room (c .before .before)))
+    (λ c κs. omega (arith, room (c .before .before .before .before .before .before), c .before .before .before .put-whole .ensures .end))
+    (λ c. search needs)
+    returns)

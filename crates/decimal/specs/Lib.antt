@@ -1,0 +1,5 @@
+pub mod Rounding
+pub mod Text
+pub mod Value
+pub mod Numeral
+pub mod Put

@@ -1,0 +1,7 @@
+// A number as decimal text, written into a lent buffer. What would fall past the buffer's end is counted and not stored.
+mod bytes;
+mod rounding;
+mod writing;
+
+pub use bytes::put;
+pub use writing::write_num;
