@@ -9,6 +9,8 @@ use Rattle.cubic.specs.Cubic.{four}
 use Rattle.cubic_calls.specs.declared.answers.Number.{Number}
 use Rattle.cubic_calls.specs.declared.answers.Point.{Point}
 use Rattle.cubic_calls.specs.declared.answers.Filled.{Filled}
+use Rattle.svg.specs.declared.call.Answer.{Answer}
+use Rattle.svg.specs.declared.call.Answer.the-variants as text
 use Rattle.cubic_calls.specs.declared.answers.Number.the-variants as number
 use Rattle.cubic_calls.specs.declared.answers.Point.the-variants as located
 use Rattle.cubic_calls.specs.declared.answers.Filled.the-variants as filled
@@ -56,3 +58,12 @@ filledCode (filled.Accepted count) = 0
 unfoldable pub filledWords : Filled → List ℕ
 filledWords (filled.Refused n place) = words place 0
 filledWords (filled.Accepted count) = words 0 count
+
+-- ---- text
+unfoldable pub textCode : Answer → ℕ
+textCode (text.Refused n place) = n
+textCode (text.Accepted length) = 0
+
+unfoldable pub textWords : Answer → List ℕ
+textWords (text.Refused n place) = words place 0
+textWords (text.Accepted length) = words 0 length

@@ -11,6 +11,8 @@ use cubic_calls::Number;
 use cubic_calls::Point;
 use geom::P;
 
+mod paths;
+
 // The control points of a cubic, from eight numbers, x before y.
 fn curve(c: &[f64; 8]) -> [P; 4]
     ensures { λ r. ⌜ r ≡ curveOf (now (c .entry)) ⌝ }

@@ -1,0 +1,38 @@
+// The exported calls on paths.
+ghost use mathlib.Core.Path.{_≡_};
+ghost use Rattle.svg.specs.Call.{toSvgDAnswer, toSvgDLeft};
+ghost use Rattle.outline.specs.Answers.{textCode, textWords};
+use crate::tell;
+use svg::Answer;
+
+#[no_mangle]
+pub extern "C" fn outline_to_svg_d(
+    shapes: &[u32],
+    anchors: &[f64],
+    out: &mut [u8],
+    answer: &mut [u64; 4],
+) -> u32
+    ensures code { λ r. ⌜ r ≡ textCode (toSvgDAnswer (now (shapes .entry)) (now (anchors .entry)) (now (out .entry))) ⌝ }
+    ensures answer { λ _. ⌜ now (answer .exit) ≡ textWords (toSvgDAnswer (now (shapes .entry)) (now (anchors .entry)) (now (out .entry))) ⌝ }
+    ensures out { λ _. ⌜ now (out .exit) ≡ toSvgDLeft (now (shapes .entry)) (now (anchors .entry)) (now (out .entry)) ⌝ }
+{
+    let a = svg::to_svg_d(shapes, anchors, out);
+    text_told(a, answer)
+}
+
+// What a call that writes text answered.
+fn text_told(a: Answer, answer: &mut [u64; 4]) -> u32
+    ensures code { λ r. ⌜ r ≡ textCode a ⌝ }
+    ensures answer { λ _. ⌜ now (answer .exit) ≡ textWords a ⌝ }
+{
+    match a {
+        Answer::Refused(n, place) => {
+            tell(place, 0, answer);
+            n
+        }
+        Answer::Accepted(length) => {
+            tell(0, length, answer);
+            0
+        }
+    }
+}
