@@ -60,6 +60,16 @@ uint32_t outline_split_cubic(const double c[8], double t, double *before, size_t
 uint32_t outline_subsegment(const double c[8], double from, double to, double *out, size_t out_len,
                             outline_answer *answer);
 
+/* A path is a list of shape words, one a subpath (top bit 1 where it is closed, the rest its anchor count, 0 allowed), and
+ * six numbers an anchor: p, the handle in, the handle out, x before y. */
+
+/* x to three decimals, without trailing zeros, never "-0". count is the bytes written, at most 11. Refuses 5, 8. */
+uint32_t outline_write_num(double x, uint8_t *out, size_t out_len, outline_answer *answer);
+
+/* A path as SVG path data, at most 32 subpaths and 1,024 anchors. count is the bytes written. Refuses 7, 5, 8. */
+uint32_t outline_to_svg_d(const uint32_t *shapes, size_t shapes_len, const double *anchors, size_t anchors_len,
+                          uint8_t *out, size_t out_len, outline_answer *answer);
+
 #ifdef __cplusplus
 }
 #endif

@@ -1,6 +1,6 @@
 // The exported calls on paths.
 ghost use mathlib.Core.Path.{_≡_};
-ghost use Rattle.svg.specs.Call.{toSvgDAnswer, toSvgDLeft};
+ghost use Rattle.svg.specs.Call.{toSvgDAnswer, toSvgDLeft, writeNumAnswer, writeNumLeft};
 ghost use Rattle.outline.specs.Answers.{textCode, textWords};
 use crate::tell;
 use svg::Answer;
@@ -17,6 +17,16 @@ pub extern "C" fn outline_to_svg_d(
     ensures out { λ _. ⌜ now (out .exit) ≡ toSvgDLeft (now (shapes .entry)) (now (anchors .entry)) (now (out .entry)) ⌝ }
 {
     let a = svg::to_svg_d(shapes, anchors, out);
+    text_told(a, answer)
+}
+
+#[no_mangle]
+pub extern "C" fn outline_write_num(x: f64, out: &mut [u8], answer: &mut [u64; 4]) -> u32
+    ensures code { λ r. ⌜ r ≡ textCode (writeNumAnswer x (now (out .entry))) ⌝ }
+    ensures answer { λ _. ⌜ now (answer .exit) ≡ textWords (writeNumAnswer x (now (out .entry))) ⌝ }
+    ensures out { λ _. ⌜ now (out .exit) ≡ writeNumLeft x (now (out .entry)) ⌝ }
+{
+    let a = svg::write_num(x, out);
     text_told(a, answer)
 }
 

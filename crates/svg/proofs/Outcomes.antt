@@ -15,6 +15,7 @@ use Rattle.views.specs.Search.{all}
 use Rattle.views.proofs.Laws.{order}
 use Rattle.views.proofs.Searches.{all-false}
 use Rattle.real.specs.Limit.{inLimit}
+use Rattle.decimal.specs.Text.{floatText}
 use Rattle.path.specs.declared.shape.Sized.the-variants.{Anchors, Wrong}
 use Rattle.path.specs.declared.limit.Found.the-variants.{At, Nothing}
 use Rattle.path.specs.Shape.{total, sizedOf}
@@ -26,7 +27,7 @@ use Rattle.svg.specs.declared.call.Answer.the-variants.{Refused, Accepte
 use Rattle.svg.specs.ReadsAs.{ReadsAs}
 use Rattle.svg.specs.Path.{commandsOf, textOf}
 use Rattle.svg.specs.Pieces.{Placed}
-use Rattle.svg.specs.Call.{sizeTest, limitTest, tests, toSvgDVerdict, answer, left, toSvgDAnswer, toSvgDLeft}
+use Rattle.svg.specs.Call.{sizeTest, limitTest, tests, toSvgDVerdict, answer, left, toSvgDAnswer, toSvgDLeft, numberTests, writeNumAnswer, writeNumLeft}
 use Rattle.svg.proofs.Paths.{text-reads}
 
 -- ---- what the two tests of the path give to `put_path`
@@ -120,3 +121,18 @@ module _ (shapes : List ℕ) (anchors : List Float) (out : List ℕ) where
           let r : length text ≤ length out = fits j in
           let t : take n (toSvgDLeft shapes anchors out) ≡ text = ap (take n) (sym (a .1)) ∙ take-at text (drop (length text) out) n (sym q) in
           (q, omega arith, rw t (text-reads shapes (anchorAt anchors)))
+
+-- ---- `write_num`: one law for each return
+module _ (x : Float) (out : List ℕ) where
+  pub number-outside : inLimit x ≡ false → (Refused 5 0 ≡ writeNumAnswer x out) × (out ≡ writeNumLeft x out)
+  unfolding writeNumAnswer writeNumLeft verdict firstFailing judge numberTests holds answer left
+  number-outside e = (rw e, rw e)
+
+  pub number-no-room : inLimit x ≡ true → length out < length (floatText x) → (Refused 8 0 ≡ writeNumAnswer x out) × (out ≡ writeNumLeft x out)
+  unfolding writeNumAnswer writeNumLeft verdict firstFailing judge numberTests holds answer left
+  number-no-room e r = let l = lt-leb (length (floatText x)) (length out) r in (rw (e, l), rw (e, l))
+
+  pub number-put : inLimit x ≡ true → length (floatText x) ≤ length out
+      → (Accepted (length (floatText x)) ≡ writeNumAnswer x out) × (floatText x ++ drop (length (floatText x)) out ≡ writeNumLeft x out)
+  unfolding writeNumAnswer writeNumLeft verdict firstFailing judge numberTests holds answer left
+  number-put e r = let l = le-leb (length (floatText x)) (length out) r in (rw (e, l), rw (e, l))

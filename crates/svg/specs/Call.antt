@@ -1,9 +1,11 @@
--- What `to_svg_d` answers, and what it leaves in the list lent to it (document 01, 'Text'). Assumes nothing.
+-- What `to_svg_d` and `write_num` answer, and what they leave in the list lent to them (document 01, 'Text'). Assumes nothing.
 use Prim.Native.Nat.{ℕ, _*_}
 use mathlib.Core.List.{List, _++_}
 use lib.Dec.{leb}
 use lib.ListN.{length, drop}
 use lib.Ieee.{Float}
+use Rattle.real.specs.Limit.{inLimit}
+use Rattle.decimal.specs.Text.{floatText}
 use Rattle.path.specs.declared.shape.Sized.{Sized}
 use Rattle.path.specs.declared.shape.Sized.the-variants.{Anchors, Wrong}
 use Rattle.path.specs.declared.limit.Found.{Found}
@@ -53,3 +55,18 @@ toSvgDAnswer shapes anchors out = answer (toSvgDVerdict shapes anchors out) (tex
 
 unfoldable pub toSvgDLeft : List ℕ → List Float → List ℕ → List ℕ
 toSvgDLeft shapes anchors out = left (toSvgDVerdict shapes anchors out) (textOf shapes (anchorAt anchors)) out
+
+-- ---- `write_num`, as a call: the number is tested as a loose argument
+unfoldable pub numberTests : Float → List ℕ → Rank → Test
+numberTests x out lists = passes
+numberTests x out arguments = holds (inLimit x) 0
+numberTests x out reference = passes
+numberTests x out capacity = passes
+numberTests x out result = passes
+numberTests x out output = holds (leb (length (floatText x)) (length out)) 0
+
+unfoldable pub writeNumAnswer : Float → List ℕ → Answer
+writeNumAnswer x out = answer (verdict (numberTests x out)) (floatText x)
+
+unfoldable pub writeNumLeft : Float → List ℕ → List ℕ
+writeNumLeft x out = left (verdict (numberTests x out)) (floatText x) out

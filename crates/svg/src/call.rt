@@ -1,6 +1,6 @@
-// The call: document 01's tests in their order, then the text.
+// The calls: document 01's tests in their order, then the text.
 ghost use mathlib.Core.Path.{_≡_};
-ghost use Rattle.svg.specs.Call.{toSvgDAnswer, toSvgDLeft};
+ghost use Rattle.svg.specs.Call.{toSvgDAnswer, toSvgDLeft, writeNumAnswer, writeNumLeft};
 use crate::outline::put_path;
 use path::Found;
 use path::Sized;
@@ -37,5 +37,22 @@ pub fn to_svg_d(shapes: &[u32], anchors: &[f64], out: &mut [u8]) -> Answer
         return Answer::Refused(refusal::OUTPUT, 0);
     }
     put_path(shapes, anchors, out);
+    Answer::Accepted(length)
+}
+
+// A number to three decimals, without trailing zeros, never "-0".
+pub fn write_num(x: f64, out: &mut [u8]) -> Answer
+    ensures answer { λ r. ⌜ r ≡ writeNumAnswer x (now (out .entry)) ⌝ }
+    ensures left { λ _. ⌜ now (out .exit) ≡ writeNumLeft x (now (out .entry)) ⌝ }
+{
+    if !real::in_limit(x) {
+        return Answer::Refused(refusal::ARGUMENTS, 0);
+    }
+    let mut none = [0u8; 1];
+    let length = decimal::write_num(&mut none, 0, x);
+    if out.len() < length {
+        return Answer::Refused(refusal::OUTPUT, 0);
+    }
+    decimal::write_num(out, 0, x);
     Answer::Accepted(length)
 }

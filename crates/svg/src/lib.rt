@@ -5,3 +5,4 @@ mod outline;
 
 pub use call::Answer;
 pub use call::to_svg_d;
+pub use call::write_num;
