@@ -1,6 +1,6 @@
 -- `cut::corners::find_corners` meets its contract: before index i the rows below it that are near are held. Assumes nothing.
-use mathlib.Core.Path.{_≡_, refl, sym, ap, _∙_}
-use mathlib.Core.Bool.{true}
+use mathlib.Core.Path.{_≡_, refl, ap, _∙_}
+use mathlib.Core.Bool.{true, false}
 use Prim.Native.Nat.{ℕ, _+_, _-_, _*_, _≤_, _<_}
 use native.Mathlib.Nat.{not-suc-le-zero}
 use native.Mathlib.Omega.{arith}
@@ -37,9 +37,12 @@ loop-holds c =
 loop-again : tie.Need-loop-again Inv-loop μ-loop
 loop-again c =
     let n = c .before in
-    let i = n .before .before .before .loop .inv in
-    let e = sym (n .near .ensures) ∙ not-true _ (c .if1 .taken) in
-    (omega arith, i .1, i .2, i .3, i .4, λ kind. below-more _ _ (i .5 kind) (λ f. absurd (not-both _ e f)))
+    let l = n .before .before .before .loop in
+    let i = l .inv in
+    let a = n .before .before .before .before .before .before .before .args in
+    let p = near (a .w .reach + 2) (a .sub .n) (a .sub .closed) (a .w .at) in
+    let e : p (l .i) ≡ false = rw (← n .near .ensures) (not-true _ (c .if1 .taken)) in
+    (omega arith, i .1, i .2, i .3, i .4, λ kind. below-more _ _ (i .5 kind) (λ f. absurd (not-both (p (l .i)) e f)))
 
 loop-again-2 : tie.Need-loop-again-2 Inv-loop μ-loop
 unfolding rowHeld viewOf

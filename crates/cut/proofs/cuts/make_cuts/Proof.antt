@@ -1,6 +1,6 @@
 -- `cut::cuts::make_cuts` meets its contract: before index i the marks and cuts below it that are near are held. Assumes nothing.
 use mathlib.Core.Path.{_≡_, refl, sym, ap, ap₂, _∙_}
-use mathlib.Core.Bool.{true}
+use mathlib.Core.Bool.{true, false}
 use Prim.Native.Nat.{ℕ, _+_, _-_, _*_, _≤_, _<_}
 use native.Mathlib.Nat.{not-suc-le-zero}
 use native.Mathlib.Omega.{arith}
@@ -13,14 +13,13 @@ use borrow.Author.Tests.{not-true, not-false}
 use Rattle.views.specs.View.{entry}
 use Rattle.cubic.specs.Cubic.{CEPS}
 use Rattle.path.specs.Flat.{anchorAt}
-use Rattle.path.specs.Shape.{prev, next}
 use Rattle.corner.specs.declared.corner.Corner.{Corner}
 use Rattle.corner.specs.Cut.{cut}
 use Rattle.cut.specs.View.{View}
 use Rattle.cut.specs.Subpath.{viewOf}
 use Rattle.cut.specs.Near.{near}
 use Rattle.cut.specs.Places.{cornerAt, fittedAt, isCut, cutAt}
-use Rattle.cut.specs.Rows.{rowAt, fittedOf, cutRowAt, flagOf}
+use Rattle.cut.specs.Rows.{cutRowAt, flagOf}
 use Rattle.cut.proofs.Steps.{not-both}
 use Rattle.cut.proofs.HeldRows.{at-put-cut, at-put-cut-other}
 use Rattle.cut.proofs.FoundCorners.{row-here, fitted-held}
@@ -47,8 +46,11 @@ loop-holds c =
 loop-again : tie.Need-loop-again Inv-loop μ-loop
 loop-again c =
     let n = c .before in
-    let i = n .before .before .before .loop .inv in
-    let e = sym (n .near .ensures) ∙ not-true _ (c .if1 .taken) in (
+    let l = n .before .before .before .loop in
+    let i = l .inv in
+    let a = n .before .before .before .before .before .before .before .before .before .args in
+    let p = near (a .w .reach + 1) (a .sub .n) (a .sub .closed) (a .w .at) in
+    let e : p (l .i) ≡ false = rw (← n .near .ensures) (not-true _ (c .if1 .taken)) in (
       omega arith,
       i .1,
       i .2,
@@ -57,44 +59,43 @@ loop-again c =
       i .5,
       i .6,
       i .7,
-      below-more _ _ (i .8) (λ f. absurd (not-both _ e f)),
-      below-more _ _ (i .9) (λ f. absurd (not-both _ e f)),
+      below-more _ _ (i .8) (λ f. absurd (not-both (p (l .i)) e f)),
+      below-more _ _ (i .9) (λ f. absurd (not-both (p (l .i)) e f)),
     )
 
 -- ---- what was computed at index i is what the definitions say
-abbrev at-index : tie.After-fitted-beside Inv-loop μ-loop → ℕ
-at-index c = c .before .before .before .before .before .before .before .before .loop .i
-
-abbrev view : tie.After-fitted-beside Inv-loop μ-loop → View
-view c =
-    let a = c .before .before .before .before .before .before .before .before .before .before .before .before .before .before .args in
-    viewOf (anchorAt (a .anchors .now)) (entry (a .radii .now)) (λ k. a .kind) 128 (a .sub)
+abbrev view : tie.In-loop Inv-loop μ-loop → View
+view c = let a = c .before .before .before .before .before .before .before .args in viewOf (anchorAt (a .anchors .now)) (entry (a .radii .now)) (λ k. a .kind) 128 (a .sub)
 
 within : (c : tie.In-loop Inv-loop μ-loop) → c .before .loop .i < c .before .before .before .before .before .before .before .args .sub .n
 within c = omega arith
 
-close : (c : tie.After-fitted-beside Inv-loop μ-loop) →
-    let a = c .before .before .before .before .before .before .before .before .before .before .before .before .before .before .args in
-    near (a .w .reach + 1) (a .sub .n) (a .sub .closed) (a .w .at) (at-index c) ≡ true
-close c = let f = c .before .before .before .before in sym (f .before .near .ensures) ∙ not-false _ (f .if1 .left)
+close : (c : tie.Else1 Inv-loop μ-loop) →
+    let l = c .before .before .before in
+    let a = l .before .before .before .before .before .before .before .args in
+    near (a .w .reach + 1) (a .sub .n) (a .sub .closed) (a .w .at) (l .before .loop .i) ≡ true
+close c = rw (← c .before .near .ensures) (not-false _ (c .if1 .left))
 
-corner-is : (c : tie.After-fitted-beside Inv-loop μ-loop) → c .before .before .corner-of-row .result ≡ cornerAt (view c) (at-index c)
+corner-is : (c : tie.After-corner-of-row Inv-loop μ-loop) → let l = c .before .before .before .before .before in c .corner-of-row .result ≡ cornerAt (view l) (l .before .loop .i)
 unfolding viewOf
 corner-is c =
-    let r = c .before .before in
-    let s = r .before .before .before .before .before .before .before .before .before .before .before .before in
+    let f = c .before .before in
+    let l = f .before .before .before in
+    let s = l .before .before .before .before .before .before .before in
     let a = s .args in
-    r .corner-of-row .ensures (entry (a .radii .now)) (λ k. a .kind)
-    (r .before .row-at .ensures ∙ row-here (view c) (a .w .reach) (a .w .at) (a .rows .now) (s .pre .0 .1 .index) (at-index c) (within (c .before .before .before .before .before .before .before)) (close c) (s .pre .1 .1))
+    c .corner-of-row .ensures (entry (a .radii .now)) (λ k. a .kind)
+    (c .before .row-at .ensures ∙ row-here (view l) (a .w .reach) (a .w .at) (a .rows .now) (s .pre .0 .1 .index) (l .before .loop .i) (within l) (close f) (s .pre .1 .1))
 
-fitted-is : (c : tie.After-fitted-beside Inv-loop μ-loop) → c .fitted-beside .result ≡ fittedAt (view c) (at-index c)
+fitted-is : (c : tie.After-fitted-beside Inv-loop μ-loop) → let l = c .before .before .before .before .before .before .before in c .fitted-beside .result ≡ fittedAt (view l) (l .before .loop .i)
 unfolding viewOf
 fitted-is c =
-    let s = c .before .before .before .before .before .before .before .before .before .before .before .before .before .before in
+    let q = c .before .before in
+    let f = q .before .before in
+    let l = f .before .before .before in
+    let s = l .before .before .before .before .before .before .before in
     let a = s .args in
-    c .fitted-beside .ensures
-    ∙ ap (λ (k : Corner). fittedOf k (entry (a .radii .now) (a .sub .first + at-index c)) (rowAt (a .rows .now) (prev (a .sub .n) (at-index c)) .asked) (rowAt (a .rows .now) (next (a .sub .n) (at-index c)) .asked)) (corner-is c)
-    ∙ fitted-held (view c) (a .w .reach) (a .w .at) (a .rows .now) (s .pre .0 .1 .index) (at-index c) (within (c .before .before .before .before .before .before .before)) (close c) (s .pre .1 .1)
+    rw (c .fitted-beside .ensures, corner-is q)
+    (fitted-held (view l) (a .w .reach) (a .w .at) (a .rows .now) (s .pre .0 .1 .index) (l .before .loop .i) (within l) (close f) (s .pre .1 .1))
 
 loop-again-2 : tie.Need-loop-again-2 Inv-loop μ-loop
 unfolding isCut
@@ -144,7 +145,7 @@ loop-again-3 c =
           ap (λ z. cutRowAt z (l .i)) (p .put-cut-row .ensures)
           ∙ at-put-cut (l .cuts) (l .i) (k .cut .result) (omega arith)
           ∙ k .cut .ensures
-          ∙ ap₂ (λ (x : Corner) (r : Float). cut 128 x r (a .kind)) (corner-is f) (fitted-is f)),
+          ∙ ap₂ (λ (x : Corner) (r : Float). cut 128 x r (a .kind)) (corner-is (f .before .before)) (fitted-is f)),
     )
 
 returns : tie.Need-returns Inv-loop μ-loop

@@ -1,5 +1,6 @@
 -- `cut::places::lay_places` meets its contract: before index i the lists hold the places of those below it that are near. Assumes nothing.
-use mathlib.Core.Path.{_≡_, refl, sym, ap, _∙_}
+use mathlib.Core.Path.{_≡_, refl, ap, _∙_}
+use mathlib.Core.Bool.{true, false}
 use Prim.Native.Nat.{ℕ, _+_, _-_, _*_, _≤_}
 use native.Mathlib.Omega.{arith}
 use lib.ListN.{length, length-set, getD}
@@ -46,14 +47,15 @@ loop-again c =
     let l = c .before .before .before .loop in
     let i = l .inv in
     let a = c .before .before .before .before .before .before .before .before .before .args in
-    let e = sym (c .before .near .ensures) ∙ not-true _ (c .if1 .taken) in (
+    let p = near (a .w .reach) (a .sub .n) (a .sub .closed) (a .w .at) in
+    let e : p (l .i) ≡ false = rw (← c .before .near .ensures) (not-true _ (c .if1 .taken)) in (
       omega arith,
       i .1,
       i .2,
       i .3,
       i .4,
       i .5,
-      i .6 ∙ count-same (near (a .w .reach) (a .sub .n) (a .sub .closed) (a .w .at)) (l .i) e,
+      i .6 ∙ count-same p (l .i) e,
       omega arith,
       λ radius kind h. numbers-skip _ _ _ _ (l .numbers) (l .i) e (i .8 radius kind h),
       λ radius kind h. flags-skip _ _ _ _ (l .flags) (l .i) e (i .9 radius kind h),
@@ -69,18 +71,19 @@ loop-again-2 c =
     let i = l .inv in
     let s = t .before .before .before .before .before .before .before .before in
     let a = s .args in
-    let e = sym (t .near .ensures) ∙ not-false _ (q .before .if1 .left) in (
+    let p = near (a .w .reach) (a .sub .n) (a .sub .closed) (a .w .at) in
+    let e : p (l .i) ≡ true = rw (← t .near .ensures) (not-false _ (q .before .if1 .left)) in (
       omega arith,
       g .kept .0 ∙ i .1,
       simp length-set (i .2),
       i .3,
       (let k = g .kept .0 in omega arith),
       simp length-set (i .5),
-      ap (λ z. z + 1) (i .6) ∙ count-more (near (a .w .reach) (a .sub .n) (a .sub .closed) (a .w .at)) (l .i) e,
+      ap (λ z. z + 1) (i .6) ∙ count-more p (l .i) e,
       omega arith,
       λ radius kind h j.
           ap (λ z. entry z j) (g .ensures)
-          ∙ numbers-put _ _ _ _ (l .numbers) (l .i) (q .place-at .result) e (omega arith) (ap placeNumbers (q .place-at .ensures radius kind h e)) (i .8 radius kind h) j,
+          ∙ numbers-put _ _ _ _ (l .numbers) (l .i) (q .place-at .result) e (omega arith) (rw (q .place-at .ensures radius kind h e)) (i .8 radius kind h) j,
       λ radius kind h.
           flags-put _ _ _ _ (l .flags) (l .i) (getD (a .marks .now) (l .i) 0) e (omega arith)
           (mark-here (viewOf (anchorAt (a .anchors .now)) radius kind 128 (a .sub)) (a .w .reach) (a .w .at) (a .cuts .now) (a .marks .now) (s .pre .0 .1 .index) (l .i) (omega arith) e h)
