@@ -9,6 +9,8 @@ use Rattle.cubic.specs.Cubic.{four}
 use Rattle.cubic_calls.specs.declared.answers.Number.{Number}
 use Rattle.cubic_calls.specs.declared.answers.Point.{Point}
 use Rattle.cubic_calls.specs.declared.answers.Filled.{Filled}
+use Rattle.cut_calls.specs.declared.calls.Outline.{Outline}
+use Rattle.cut_calls.specs.declared.calls.Outline.the-variants as outline
 use Rattle.svg.specs.declared.call.Answer.{Answer}
 use Rattle.svg.specs.declared.call.Answer.the-variants as text
 use Rattle.cubic_calls.specs.declared.answers.Number.the-variants as number
@@ -67,3 +69,12 @@ textCode (text.Accepted length) = 0
 unfoldable pub textWords : Answer → List ℕ
 textWords (text.Refused n place) = words place 0
 textWords (text.Accepted length) = words 0 length
+
+-- ---- an outline in lists
+unfoldable pub outlineCode : Outline → ℕ
+outlineCode (outline.Refused n place) = n
+outlineCode (outline.Accepted subpaths count) = 0
+
+unfoldable pub outlineWords : Outline → List ℕ
+outlineWords (outline.Refused n place) = words place 0
+outlineWords (outline.Accepted subpaths count) = 0 ∷ count ∷ subpaths ∷ 0 ∷ []

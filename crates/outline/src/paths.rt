@@ -1,9 +1,47 @@
 // The exported calls on paths.
 ghost use mathlib.Core.Path.{_≡_};
+ghost use Rattle.cut_calls.specs.Calls.{cutAnswer, cutShapesLeft, cutAnchorsLeft};
 ghost use Rattle.svg.specs.Call.{toSvgDAnswer, toSvgDLeft, writeNumAnswer, writeNumLeft};
-ghost use Rattle.outline.specs.Answers.{textCode, textWords};
+ghost use Rattle.outline.specs.Answers.{textCode, textWords, outlineCode, outlineWords};
 use crate::tell;
+use cut_calls::Outline;
 use svg::Answer;
+
+#[no_mangle]
+pub extern "C" fn outline_cut_corners(
+    shapes: &[u32],
+    anchors: &[f64],
+    radii: &[f64],
+    kind: u32,
+    to_shapes: &mut [u32],
+    to: &mut [f64],
+    answer: &mut [u64; 4],
+) -> u32
+    ensures code { λ r. ⌜ r ≡ outlineCode (cutAnswer (now (shapes .entry)) (now (anchors .entry)) (now (radii .entry)) kind (now («to_shapes» .entry)) (now (to .entry))) ⌝ }
+    ensures answer { λ _. ⌜ now (answer .exit) ≡ outlineWords (cutAnswer (now (shapes .entry)) (now (anchors .entry)) (now (radii .entry)) kind (now («to_shapes» .entry)) (now (to .entry))) ⌝ }
+    ensures shapes { λ _. ⌜ now («to_shapes» .exit) ≡ cutShapesLeft (now (shapes .entry)) (now (anchors .entry)) (now (radii .entry)) kind (now («to_shapes» .entry)) (now (to .entry)) ⌝ }
+    ensures anchors { λ _. ⌜ now (to .exit) ≡ cutAnchorsLeft (now (shapes .entry)) (now (anchors .entry)) (now (radii .entry)) kind (now («to_shapes» .entry)) (now (to .entry)) ⌝ }
+{
+    let a = cut_calls::cut_corners(shapes, anchors, radii, kind, to_shapes, to);
+    outline_told(a, answer)
+}
+
+// What a call that makes an outline answered.
+fn outline_told(a: Outline, answer: &mut [u64; 4]) -> u32
+    ensures code { λ r. ⌜ r ≡ outlineCode a ⌝ }
+    ensures answer { λ _. ⌜ now (answer .exit) ≡ outlineWords a ⌝ }
+{
+    match a {
+        Outline::Refused(n, place) => {
+            tell(place, 0, answer);
+            n
+        }
+        Outline::Accepted(subpaths, count) => {
+            *answer = [0, count as u64, subpaths as u64, 0];
+            0
+        }
+    }
+}
 
 #[no_mangle]
 pub extern "C" fn outline_to_svg_d(

@@ -1,0 +1,4 @@
+pub mod Laying
+pub mod Gathered
+pub mod Counts
+pub mod Outcomes

@@ -1,0 +1,2 @@
+pub mod PlainCut
+pub mod Calls
