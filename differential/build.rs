@@ -15,9 +15,18 @@ fn main() {
         let path = original.join(file.name);
         println!("cargo:rerun-if-changed={}", path.display());
         let text = fs::read_to_string(&path).unwrap_or_else(|e| panic!("{}: {e}", path.display()));
-        fs::write(out.join(file.name), file.edited(text)).expect("OUT_DIR can be written");
+        let text = file.edited(text);
+        write(&out, file, &text);
+        if file.name == edits::bezier::FILE.name {
+            let counted = edits::branches::FILE;
+            write(&out, &counted, &counted.edited(text));
+        }
     }
     link(&here);
+}
+
+fn write(out: &Path, file: &File, text: &str) {
+    fs::write(out.join(file.name), text).expect("OUT_DIR can be written");
 }
 
 /// The folder of the original's files: in `ZIGZAG_SRC`, or else in `shared/` beside the repository.

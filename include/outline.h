@@ -60,8 +60,16 @@ uint32_t outline_split_cubic(const double c[8], double t, double *before, size_t
 uint32_t outline_subsegment(const double c[8], double from, double to, double *out, size_t out_len,
                             outline_answer *answer);
 
-/* A path is a list of shape words, one a subpath (top bit 1 where it is closed, the rest its anchor count, 0 allowed), and
- * six numbers an anchor: p, the handle in, the handle out, x before y. */
+/* A path is a list of shape words, one a subpath (top bit 1 where it is closed, the rest its anchor count, 0 allowed), and six
+ * numbers an anchor: p, the handle in, the handle out, x before y. A drawing is a path, one radius an anchor, and a kind. */
+enum outline_kind { OUTLINE_ROUND = 0, OUTLINE_INVERTED = 1, OUTLINE_CHAMFER = 2 };
+
+/* The drawing's path with its corners cut: at most 32 subpaths and 512 anchors in, at most twice as many anchors out.
+ * subpaths and count say how many words and anchors were written. Refuses 7, 5, 9 at the index in the cut path, 8. */
+uint32_t outline_cut_corners(const uint32_t *shapes, size_t shapes_len, const double *anchors, size_t anchors_len,
+                             const double *radii, size_t radii_len, uint32_t kind,
+                             uint32_t *to_shapes, size_t to_shapes_len, double *to, size_t to_len,
+                             outline_answer *answer);
 
 /* x to three decimals, without trailing zeros, never "-0". count is the bytes written, at most 11. Refuses 5, 8. */
 uint32_t outline_write_num(double x, uint8_t *out, size_t out_len, outline_answer *answer);

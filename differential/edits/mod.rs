@@ -2,6 +2,7 @@
 //! stops the build, and is not compared half edited.
 
 pub mod bezier;
+pub mod branches;
 pub mod geom;
 
 /// A file of the original.

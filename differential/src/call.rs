@@ -1,10 +1,11 @@
 //! A call of the library beside the original's function, and a run of generated cases over it.
 
-use crate::case::{Case, Lents};
+use crate::case::Case;
 use crate::compare::{mismatch, Answered, Expected};
 use crate::family::Family;
+use crate::lents::Lents;
 use crate::random::Random;
-use crate::refusal::{ACCEPTED, ARGUMENTS, OUTPUT, RESULT};
+use crate::refusal::{ACCEPTED, ARGUMENTS, LISTS, OUTPUT, RESULT};
 use crate::report::Tally;
 
 pub struct Call {
@@ -30,7 +31,7 @@ impl Call {
             let expected = Expected::of(&case, self.original);
             case.families.push(outcome(&expected, case.is_short()));
             tally.count(1, &case.families);
-            let mut lents = Lents::of(&case, random);
+            let mut lents = case.lents(random);
             let refusal = (self.library)(&case, &mut lents);
             if let Some(wrong) = mismatch(&expected, refusal, &lents) {
                 tally.fail(case.size(), || format!("{case}\n    {wrong}"));
@@ -40,17 +41,21 @@ impl Call {
     }
 }
 
-// A call may be refused 5 or 9 and be short of room too: 8 comes last.
+// A call may be refused 7, 5 or 9 and be short of room too: 8 comes last.
 pub const ACCEPTS: Family = ("outcome", "accepted");
+pub const REFUSES_7: Family = ("outcome", "refused 7");
+pub const REFUSES_7_SHORT: Family = ("outcome", "refused 7, and short");
 pub const REFUSES_5: Family = ("outcome", "refused 5");
 pub const REFUSES_5_SHORT: Family = ("outcome", "refused 5, and short");
 pub const REFUSES_9: Family = ("outcome", "refused 9");
 pub const REFUSES_9_SHORT: Family = ("outcome", "refused 9, and short");
 pub const REFUSES_8: Family = ("outcome", "refused 8");
 
-fn outcome(expected: &Expected, short: bool) -> Family {
+pub fn outcome(expected: &Expected, short: bool) -> Family {
     match (expected.refusal, short) {
         (ACCEPTED, _) => ACCEPTS,
+        (LISTS, false) => REFUSES_7,
+        (LISTS, true) => REFUSES_7_SHORT,
         (ARGUMENTS, false) => REFUSES_5,
         (ARGUMENTS, true) => REFUSES_5_SHORT,
         (RESULT, false) => REFUSES_9,

@@ -1,8 +1,9 @@
 //! One generated call, and the buffers it lends.
 
-use crate::family::Family;
-use crate::guard::Lent;
-use crate::parameters::ROOM;
+use crate::family::{self, Family};
+use crate::guard::{Entry, Lent};
+use crate::lents::Lents;
+use crate::parameters::{ENOUGH, ROOM};
 use crate::random::Random;
 use crate::refusal::{in_limit, MOST_STEPS};
 use crate::values::outside;
@@ -25,12 +26,35 @@ pub struct Room {
     pub lent: usize,
 }
 
+impl Room {
+    pub fn exact(need: usize) -> Room {
+        Room { need, lent: need }
+    }
+
+    /// One that is long enough in most cases.
+    pub fn draw(need: usize, random: &mut Random, drawn: &mut Vec<Family>) -> Room {
+        let room = if random.one_in(4) { &ROOM } else { &ENOUGH };
+        let lent = room.draw(random, drawn)(need, random);
+        Room { need, lent }
+    }
+
+    pub fn is_short(&self) -> bool {
+        self.lent < self.need
+    }
+}
+
+impl Display for Room {
+    fn fmt(&self, f: &mut Formatter) -> Result {
+        write!(f, "room {} of {}", self.lent, self.need)
+    }
+}
+
 impl Case {
     pub const ARGUMENTS: [Family; 2] = [("arguments", "as drawn"), ("arguments", "one outside")];
 
     /// A buffer that always has the room that is needed.
     pub fn lend_exactly(&mut self, need: usize) {
-        self.rooms.push(Room { need, lent: need });
+        self.rooms.push(Room::exact(need));
     }
 
     pub fn lend(&mut self, need: usize, random: &mut Random) {
@@ -53,7 +77,18 @@ impl Case {
     }
 
     pub fn is_short(&self) -> bool {
-        self.rooms.iter().any(|room| room.lent < room.need)
+        self.rooms.iter().any(Room::is_short)
+    }
+
+    /// The buffers that the call is lent.
+    pub fn lents(&self, random: &mut Random) -> Lents {
+        Lents {
+            given: vec![Lent::holding(&self.numbers, random)],
+            results: (self.rooms.iter())
+                .map(|room| Lent::foreign(Entry::Number, room.lent, random))
+                .collect(),
+            answer: Lent::for_answer(random),
+        }
     }
 
     /// How much there is to read: the numbers' bits down to the last one that is set, and the lengths.
@@ -71,37 +106,14 @@ pub fn significant_bits(word: u64) -> u64 {
 
 impl Display for Case {
     fn fmt(&self, f: &mut Formatter) -> Result {
-        let families = self
-            .families
-            .iter()
-            .map(|(group, name)| format!("{group}: {name}"));
-        writeln!(f, "    {}", families.collect::<Vec<_>>().join(", "))?;
+        writeln!(f, "    {}", family::list(&self.families))?;
         for x in &self.numbers {
             writeln!(f, "    {:#018x}  {x:e}", x.to_bits())?;
         }
         write!(f, "    n {}", self.steps)?;
         for room in &self.rooms {
-            write!(f, ", room {} of {}", room.lent, room.need)?;
+            write!(f, ", {room}")?;
         }
         Ok(())
-    }
-}
-
-/// What a call is lent.
-pub struct Lents {
-    pub given: Lent,
-    pub results: Vec<Lent>,
-    pub answer: Lent,
-}
-
-impl Lents {
-    pub fn of(case: &Case, random: &mut Random) -> Lents {
-        Lents {
-            given: Lent::holding(&case.numbers, random),
-            results: (case.rooms.iter())
-                .map(|room| Lent::foreign(room.lent, random))
-                .collect(),
-            answer: Lent::foreign(4, random),
-        }
     }
 }

@@ -1,7 +1,8 @@
 //! What a call must answer and leave in every lent bit, against what it did.
 
-use crate::case::{Case, Lents};
+use crate::case::Case;
 use crate::guard::{Lent, Wrong};
+use crate::lents::Lents;
 use crate::refusal::{in_limit, ACCEPTED, ARGUMENTS, OUTPUT, RESULT};
 use std::fmt::{Display, Formatter, Result};
 
@@ -16,7 +17,7 @@ pub struct Expected {
     pub refusal: u32,
     /// place, count, subpaths, recut
     pub answer: [u64; 4],
-    /// The bits written to each list of the result.
+    /// The bits of each entry written, for each list of the result.
     pub written: Vec<Vec<u64>>,
 }
 
@@ -42,11 +43,15 @@ impl Expected {
         }
     }
 
-    /// The place is 0, as in every refusal of a call without a path.
+    /// At place 0, as every refusal of a call without a path.
     pub fn refused(refusal: u32) -> Expected {
+        Expected::refused_at(0, refusal)
+    }
+
+    pub fn refused_at(place: usize, refusal: u32) -> Expected {
         Expected {
             refusal,
-            answer: [0; 4],
+            answer: [place as u64, 0, 0, 0],
             written: Vec::new(),
         }
     }
@@ -54,7 +59,7 @@ impl Expected {
 
 #[derive(Clone, Copy, Debug, PartialEq)]
 pub enum Buffer {
-    Given,
+    Given(usize),
     Result(usize),
     Answer,
 }
@@ -62,7 +67,7 @@ pub enum Buffer {
 #[derive(Debug, PartialEq)]
 pub enum Mismatch {
     Refusal { expected: u32, got: u32 },
-    Word(Buffer, Wrong),
+    Entry(Buffer, Wrong),
 }
 
 /// The first thing that is not as it must be.
@@ -74,7 +79,7 @@ pub fn mismatch(expected: &Expected, refusal: u32, lents: &Lents) -> Option<Mism
         });
     }
     let wrong = |buffer: Buffer, lent: &Lent, written: &[u64]| {
-        Some(Mismatch::Word(buffer, lent.wrong(written)?))
+        Some(Mismatch::Entry(buffer, lent.wrong(written)?))
     };
     wrong(Buffer::Answer, &lents.answer, &expected.answer)
         .or_else(|| {
@@ -84,16 +89,19 @@ pub fn mismatch(expected: &Expected, refusal: u32, lents: &Lents) -> Option<Mism
                 wrong(Buffer::Result(list), lent, written)
             })
         })
-        .or_else(|| wrong(Buffer::Given, &lents.given, &[]))
+        .or_else(|| {
+            let mut given = lents.given.iter().enumerate();
+            given.find_map(|(list, lent)| wrong(Buffer::Given(list), lent, &[]))
+        })
 }
 
 impl Display for Mismatch {
     fn fmt(&self, f: &mut Formatter) -> Result {
         match self {
             Mismatch::Refusal { expected, got } => write!(f, "refusal {got}, not {expected}"),
-            Mismatch::Word(buffer, Wrong { at, expected, got }) => write!(
+            Mismatch::Entry(buffer, Wrong { at, expected, got }) => write!(
                 f,
-                "{buffer:?}: word {at} is {got:#018x}, not {expected:#018x}"
+                "{buffer:?}: entry {at} is {got:#018x}, not {expected:#018x}"
             ),
         }
     }

@@ -56,7 +56,7 @@ const CUBIC_AT: Call = Call {
     library: |case, lents| {
         let point = lents.results[0].array();
         let answer = lents.answer.answer();
-        ffi::cubic_at(lents.given.array(), case.numbers[8], point, answer)
+        ffi::cubic_at(lents.given[0].array(), case.numbers[8], point, answer)
     },
 };
 
@@ -98,7 +98,7 @@ const SAMPLE: Call = Call {
     library: |case, lents| {
         let out = lents.results[0].numbers();
         let answer = lents.answer.answer();
-        ffi::sample(lents.given.array(), case.steps, out, answer)
+        ffi::sample(lents.given[0].array(), case.steps, out, answer)
     },
 };
 
@@ -125,7 +125,7 @@ const SPLIT_CUBIC: Call = Call {
             unreachable!("two buffers are lent")
         };
         ffi::split_cubic(
-            lents.given.array(),
+            lents.given[0].array(),
             case.numbers[8],
             before.numbers(),
             after.numbers(),
@@ -158,7 +158,7 @@ const SUBSEGMENT: Call = Call {
         let (from, to) = (case.numbers[8], case.numbers[9]);
         let out = lents.results[0].numbers();
         let answer = lents.answer.answer();
-        ffi::subsegment(lents.given.array(), from, to, out, answer)
+        ffi::subsegment(lents.given[0].array(), from, to, out, answer)
     },
 };
 

@@ -23,3 +23,11 @@ impl<T> Group<T> {
         self.ways.iter().map(|way| (self.name, way.0)).collect()
     }
 }
+
+/// For a report.
+pub fn list(families: &[Family]) -> String {
+    let names = families
+        .iter()
+        .map(|(group, name)| format!("{group}: {name}"));
+    names.collect::<Vec<_>>().join(", ")
+}

@@ -39,6 +39,33 @@ extern "C" {
         out_len: usize,
         answer: *mut Answer,
     ) -> u32;
+
+    fn outline_cut_corners(
+        shapes: *const u32,
+        shapes_len: usize,
+        anchors: *const f64,
+        anchors_len: usize,
+        radii: *const f64,
+        radii_len: usize,
+        kind: u32,
+        to_shapes: *mut u32,
+        to_shapes_len: usize,
+        to: *mut f64,
+        to_len: usize,
+        answer: *mut Answer,
+    ) -> u32;
+
+    fn outline_write_num(x: f64, out: *mut u8, out_len: usize, answer: *mut Answer) -> u32;
+
+    fn outline_to_svg_d(
+        shapes: *const u32,
+        shapes_len: usize,
+        anchors: *const f64,
+        anchors_len: usize,
+        out: *mut u8,
+        out_len: usize,
+        answer: *mut Answer,
+    ) -> u32;
 }
 
 pub fn root(x: f64) -> f64 {
@@ -71,4 +98,52 @@ pub fn split_cubic(
 
 pub fn subsegment(c: &Flat, from: f64, to: f64, out: &mut [f64], answer: &mut Answer) -> u32 {
     unsafe { outline_subsegment(c, from, to, out.as_mut_ptr(), out.len(), answer) }
+}
+
+pub fn cut_corners(
+    shapes: &[u32],
+    anchors: &[f64],
+    radii: &[f64],
+    kind: u32,
+    to_shapes: &mut [u32],
+    to: &mut [f64],
+    answer: &mut Answer,
+) -> u32 {
+    unsafe {
+        outline_cut_corners(
+            shapes.as_ptr(),
+            shapes.len(),
+            anchors.as_ptr(),
+            anchors.len(),
+            radii.as_ptr(),
+            radii.len(),
+            kind,
+            to_shapes.as_mut_ptr(),
+            to_shapes.len(),
+            to.as_mut_ptr(),
+            to.len(),
+            answer,
+        )
+    }
+}
+
+pub fn write_num(x: f64, out: &mut [u8], answer: &mut Answer) -> u32 {
+    unsafe { outline_write_num(x, out.as_mut_ptr(), out.len(), answer) }
+}
+
+pub fn to_svg_d(shapes: &[u32], anchors: &[f64], out: &mut [u8], answer: &mut Answer) -> u32 {
+    let (shapes, shapes_len) = (shapes.as_ptr(), shapes.len());
+    let (anchors, anchors_len) = (anchors.as_ptr(), anchors.len());
+    let (out, out_len) = (out.as_mut_ptr(), out.len());
+    unsafe {
+        outline_to_svg_d(
+            shapes,
+            shapes_len,
+            anchors,
+            anchors_len,
+            out,
+            out_len,
+            answer,
+        )
+    }
 }

@@ -1,24 +1,44 @@
 //! The differential test: the library against the original, with document 01's stand-ins put into
 //! the latter, bit by bit. `cargo run --release -- run` from this folder; `bench` measures speed.
 
+// Without a group of calls, what only they need stands unused.
+#![cfg_attr(not(all(feature = "cut", feature = "text")), allow(dead_code))]
+
+mod anchors;
+mod angles;
 mod bench;
+mod branches;
 mod call;
 mod case;
 mod compare;
 mod cubics;
 mod curves;
+#[cfg(feature = "cut")]
+mod cuts;
+mod damage;
+mod drawings;
 mod family;
 mod ffi;
 mod guard;
+mod lents;
+mod numerals;
 mod original;
+mod outlines;
 mod parameters;
+mod paths;
+mod radii;
 mod random;
 mod refusal;
 mod report;
 mod root;
+mod samples;
 mod selftest;
+mod sizes;
 mod stand_ins;
+#[cfg(feature = "text")]
+mod text;
 mod values;
+mod writings;
 
 use random::Random;
 use std::process::ExitCode;
@@ -31,6 +51,14 @@ const CASES: u64 = 1_000_000;
 /// Patterns of each kind that `root` is given, for each case of another call: it is quick, and every
 /// length rests on it.
 const ROOTS: u64 = 2;
+
+/// Numbers that are written, for each case of another call.
+const NUMERALS: u64 = 2;
+
+/// Drawings and paths, each of which has up to thousands of numbers.
+fn drawings(cases: u64) -> u64 {
+    (cases / 25).max(20_000)
+}
 
 fn main() -> ExitCode {
     let arguments: Vec<String> = std::env::args().skip(1).collect();
@@ -83,6 +111,13 @@ fn run(seed: u64, cases: u64) -> ExitCode {
     tell(root::run(ROOTS * cases, &mut random));
     for call in &cubics::CALLS {
         tell(call.run(cases, &mut random));
+    }
+    #[cfg(feature = "cut")]
+    tell(cuts::run(drawings(cases), &mut random));
+    #[cfg(feature = "text")]
+    {
+        tell(text::write_num(NUMERALS * cases, &mut random));
+        tell(text::to_svg_d(drawings(cases), &mut random));
     }
     let seconds = start.elapsed().as_secs_f64();
     let verdict = if passed { "passed" } else { "FAILED" };

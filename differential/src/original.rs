@@ -7,6 +7,12 @@ pub mod bezier {
     include!(concat!(env!("OUT_DIR"), "/bezier.rs"));
 }
 
+/// Document 000 again, with notes of the branches that are taken; nothing is compared with it.
+#[allow(dead_code, clippy::all)]
+pub mod counted {
+    include!(concat!(env!("OUT_DIR"), "/counted.rs"));
+}
+
 /// Document 001.
 #[allow(dead_code, clippy::all)]
 pub mod geom {

@@ -78,10 +78,22 @@ pub static ROOM: Group<Lending> = Group {
     name: "room",
     ways: &[
         ("none", |_, _| 0),
-        ("some", |need, random| random.below(need as u64) as usize),
-        ("one short", |need, _| need - 1),
-        ("exact", |need, _| need),
-        ("one over", |need, _| need + 1),
-        ("more", |need, random| need + 2 + random.below(16) as usize),
+        ("some", |need, random| {
+            random.below(need.max(1) as u64) as usize
+        }),
+        ("one short", |need, _| need.saturating_sub(1)),
+        EXACT,
+        ONE_OVER,
+        MORE,
     ],
 };
+
+/// Those of them that are long enough.
+pub static ENOUGH: Group<Lending> = Group {
+    name: "room",
+    ways: &[EXACT, ONE_OVER, MORE],
+};
+
+const EXACT: (&str, Lending) = ("exact", |need, _| need);
+const ONE_OVER: (&str, Lending) = ("one over", |need, _| need + 1);
+const MORE: (&str, Lending) = ("more", |need, random| need + 2 + random.below(16) as usize);

@@ -38,6 +38,13 @@ impl Random {
         2.0 * self.unit() - 1.0
     }
 
+    /// Cosine and sine of an angle, without functions that differ between machines.
+    pub fn angle(&mut self) -> (f64, f64) {
+        let tan_half = self.signed_unit();
+        let (part, whole) = (1.0 - tan_half * tan_half, 1.0 + tan_half * tan_half);
+        (self.signed(part / whole), 2.0 * tan_half / whole)
+    }
+
     /// `x` or `-x`, a zero's and a NaN's sign too.
     pub fn signed(&mut self, x: f64) -> f64 {
         f64::from_bits(x.to_bits() ^ (self.bits() & (1 << 63)))

@@ -1,6 +1,8 @@
-//! Document 01's numbers for a refusal, and its limit.
+//! Document 01's numbers for a refusal, and its limits.
 
 pub const ACCEPTED: u32 = 0;
+/// Too many subpaths or anchors, or a list too short for its shape.
+pub const LISTS: u32 = 7;
 /// An argument breaks the limit.
 pub const ARGUMENTS: u32 = 5;
 /// The result breaks the limit.
@@ -12,6 +14,12 @@ pub const LIMIT: f64 = 131_072.0;
 
 /// Steps that `sample` takes at most.
 pub const MOST_STEPS: usize = 256;
+
+pub const MOST_SUBPATHS: usize = 32;
+/// Anchors of a drawing.
+pub const MOST_ANCHORS: usize = 512;
+/// Anchors of a path that may be a cut one.
+pub const MOST_CUT_ANCHORS: usize = 2 * MOST_ANCHORS;
 
 pub fn in_limit(x: f64) -> bool {
     x.abs() <= LIMIT

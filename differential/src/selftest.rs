@@ -1,22 +1,24 @@
 //! The comparison must be able to fail: it lets right answers pass, and reports each wrong one.
 
-use crate::case::{Case, Lents};
 use crate::compare::{mismatch, Buffer, Expected, Mismatch};
 use crate::family::Family;
-use crate::guard::{Lent, GUARD};
+use crate::guard::{Entry, Lent};
+use crate::lents::Lents;
 use crate::random::Random;
-use crate::refusal::{ACCEPTED, ARGUMENTS, OUTPUT, RESULT};
+use crate::refusal::{ACCEPTED, ARGUMENTS, LISTS, OUTPUT, RESULT};
 use crate::report::Tally;
 use crate::root;
 
 /// Panics where something wrong passes, or something right does not.
 pub fn run(random: &mut Random) {
-    check(&Expected::refused(RESULT), random);
-    let bits = |numbers: [f64; 2]| numbers.map(f64::to_bits).to_vec();
+    check(&Expected::refused_at(7, RESULT), random);
+    let numbers = [1.0f64, -0.0].map(f64::to_bits);
+    let words = [1 << 31 | 2, 0];
+    let bytes = b"M1 -0".map(u64::from);
     let accepted = Expected {
         refusal: ACCEPTED,
-        answer: [0, 1, 0, 0],
-        written: vec![bits([1.0, -0.0]), bits([0.0, 2.0])],
+        answer: [0, 2, 1, 0],
+        written: vec![numbers.to_vec(), words.to_vec(), bytes.to_vec()],
     };
     check(&accepted, random);
     check_root();
@@ -24,30 +26,25 @@ pub fn run(random: &mut Random) {
 }
 
 /// Every wrong number, and every bit of every buffer: of the place and of the other words of the
-/// answer, of the result, of what stands behind it, of the arguments, and of all guard words.
+/// answer, of the result, of what stands behind it, of what is given, and of all guards.
 fn check(expected: &Expected, random: &mut Random) {
     let mut lents = call(expected, random);
     assert_eq!(mismatch(expected, expected.refusal, &lents), None);
-    for refusal in [ACCEPTED, ARGUMENTS, RESULT, OUTPUT] {
+    for refusal in [ACCEPTED, LISTS, ARGUMENTS, RESULT, OUTPUT] {
         let reported = mismatch(expected, refusal, &lents).is_some();
         assert_eq!(reported, refusal != expected.refusal, "refusal {refusal}");
     }
-    let buffers = [
-        Buffer::Answer,
-        Buffer::Result(0),
-        Buffer::Result(1),
-        Buffer::Given,
-    ];
-    for buffer in buffers {
-        let end = buffer_of(&mut lents, buffer).words().len() + GUARD;
-        for at in -(GUARD as isize)..end as isize {
-            for bit in 0..64 {
+    let results = (0..lents.results.len()).map(Buffer::Result);
+    let given = (0..lents.given.len()).map(Buffer::Given);
+    for buffer in results.chain(given).chain([Buffer::Answer]) {
+        for at in buffer_of(&mut lents, buffer).places() {
+            for bit in 0..buffer_of(&mut lents, buffer).bits() {
                 buffer_of(&mut lents, buffer).flip(at, bit);
                 match mismatch(expected, expected.refusal, &lents) {
-                    Some(Mismatch::Word(found, wrong)) if (found, wrong.at) == (buffer, at) => {
+                    Some(Mismatch::Entry(found, wrong)) if (found, wrong.at) == (buffer, at) => {
                         assert_eq!(wrong.got ^ wrong.expected, 1 << bit);
                     }
-                    other => panic!("bit {bit} of word {at} of {buffer:?} gives {other:?}"),
+                    other => panic!("bit {bit} of entry {at} of {buffer:?} gives {other:?}"),
                 }
                 buffer_of(&mut lents, buffer).flip(at, bit);
             }
@@ -55,18 +52,22 @@ fn check(expected: &Expected, random: &mut Random) {
     }
 }
 
-/// What a right call leaves, in two lists that are longer than the result.
+/// What a right call leaves, in lists of each kind of entry that are longer than the result.
 fn call(expected: &Expected, random: &mut Random) -> Lents {
-    let mut case = Case {
-        numbers: vec![5.0, 12.0],
-        ..Case::default()
+    let results = [(Entry::Number, 3), (Entry::Word, 3), (Entry::Byte, 7)];
+    let mut lents = Lents {
+        given: vec![
+            Lent::holding(&[5.0, 12.0], random),
+            Lent::holding_words(&[1 << 31 | 1, 0, 1], random),
+        ],
+        results: (results.iter())
+            .map(|&(entry, len)| Lent::foreign(entry, len, random))
+            .collect(),
+        answer: Lent::for_answer(random),
     };
-    case.lend_exactly(3);
-    case.lend_exactly(3);
-    let mut lents = Lents::of(&case, random);
     *lents.answer.answer() = expected.answer;
-    for (lent, bits) in lents.results.iter_mut().zip(&expected.written) {
-        lent.words()[..bits.len()].copy_from_slice(bits);
+    for (lent, written) in lents.results.iter_mut().zip(&expected.written) {
+        lent.write(written);
     }
     lents
 }
@@ -75,7 +76,7 @@ fn buffer_of(lents: &mut Lents, buffer: Buffer) -> &mut Lent {
     match buffer {
         Buffer::Answer => &mut lents.answer,
         Buffer::Result(list) => &mut lents.results[list],
-        Buffer::Given => &mut lents.given,
+        Buffer::Given(list) => &mut lents.given[list],
     }
 }
 

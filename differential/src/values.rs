@@ -4,7 +4,7 @@ use crate::family::Group;
 use crate::random::Random;
 use crate::refusal::LIMIT;
 
-type Numbers = fn(&mut Random) -> f64;
+pub type Numbers = fn(&mut Random) -> f64;
 
 pub static NUMBERS: Group<Numbers> = Group {
     name: "numbers",
@@ -41,12 +41,24 @@ pub fn edge(random: &mut Random) -> f64 {
     random.signed(near)
 }
 
+/// A number that a test against `mark` may go either way for: mostly itself or a neighbour.
+pub fn near(mark: f64, random: &mut Random) -> f64 {
+    match random.below(8) {
+        0 => mark.next_down(),
+        1 => mark.next_up(),
+        2 => f64::from_bits(mark.to_bits() + 8 - random.below(17)),
+        3 => mark * (1.0 + 1e-6 * random.signed_unit()),
+        4 => mark * (0.5 + random.unit()),
+        _ => mark,
+    }
+}
+
 pub fn uniform(random: &mut Random) -> f64 {
     LIMIT * random.signed_unit()
 }
 
 /// Small, so that sums and products come out exactly, and zero often.
-fn integer(random: &mut Random) -> f64 {
+pub fn integer(random: &mut Random) -> f64 {
     random.below(41) as f64 - 20.0
 }
 

@@ -49,10 +49,10 @@ pub fn write_num(x: f64, out: &mut [u8]) -> Answer
         return Answer::Refused(refusal::ARGUMENTS, 0);
     }
     let mut none = [0u8; 1];
-    let length = decimal::write_num(&mut none, 0, x);
-    if out.len() < length {
+    let bytes = decimal::write_num(&mut none, 0, x);
+    if out.len() < bytes {
         return Answer::Refused(refusal::OUTPUT, 0);
     }
     decimal::write_num(out, 0, x);
-    Answer::Accepted(length)
+    Answer::Accepted(bytes)
 }

@@ -1,0 +1,66 @@
+//! The library's speed beside the original's, as ratios from one run: what else the machine does
+//! slows both, since their rounds alternate.
+
+#[cfg(feature = "cut")]
+mod cuts;
+mod points;
+#[cfg(feature = "text")]
+mod text;
+
+use crate::random::Random;
+use std::ops::Range;
+use std::time::Instant;
+
+const ROUNDS: usize = 256;
+
+/// One call, as both make it: on the inputs in a range.
+struct Race<'a> {
+    name: &'static str,
+    /// Calls in a round: so few that it fits well into a time slice, and a median passes over the
+    /// rounds that were interrupted.
+    calls: usize,
+    /// How many there are, a multiple of the calls.
+    inputs: usize,
+    ours: Calls<'a>,
+    original: Calls<'a>,
+}
+
+type Calls<'a> = Box<dyn FnMut(Range<usize>) + 'a>;
+
+pub fn run(random: &mut Random) {
+    measure(points::Inputs::draw(random).races());
+    #[cfg(feature = "cut")]
+    measure(cuts::Inputs::draw(random).races());
+    #[cfg(feature = "text")]
+    measure(text::Inputs::draw(random).races());
+}
+
+fn measure(mut races: Vec<Race>) {
+    let mut times: Vec<_> = races.iter().map(|_| (Vec::new(), Vec::new())).collect();
+    for round in 0..ROUNDS {
+        for (race, (ours, original)) in races.iter_mut().zip(&mut times) {
+            let start = round * race.calls % race.inputs;
+            let at = start..start + race.calls;
+            ours.push(nanoseconds(&mut race.ours, at.clone()));
+            original.push(nanoseconds(&mut race.original, at));
+        }
+    }
+    for (race, (ours, original)) in races.iter().zip(times) {
+        let (ours, original) = (median(ours), median(original));
+        let ratio = ours / original;
+        println!("{} {ratio:.2} ({ours:.1} ns, {original:.1} ns)", race.name);
+    }
+}
+
+/// For each call.
+fn nanoseconds(calls: &mut Calls, at: Range<usize>) -> f64 {
+    let count = at.len() as f64;
+    let start = Instant::now();
+    calls(at);
+    start.elapsed().as_nanos() as f64 / count
+}
+
+fn median(mut times: Vec<f64>) -> f64 {
+    times.sort_by(f64::total_cmp);
+    times[times.len() / 2]
+}

@@ -1,0 +1,108 @@
+//! Text of numbers and of paths.
+
+use super::{Race, ROUNDS};
+use crate::ffi;
+use crate::original::bezier::{self, Anchor, BezPath, SubPath};
+use crate::original::geom::P;
+use crate::paths::Path;
+use crate::random::Random;
+use crate::refusal::ACCEPTED;
+use crate::values::uniform;
+use std::hint::black_box;
+
+const CALLS: usize = 1 << 10;
+const NUMBERS: usize = ROUNDS * CALLS;
+/// Paths in a round, and the anchors of each.
+const PATHS: usize = 8;
+const ANCHORS: usize = 64;
+/// Bytes of a number at most, and of a path.
+const LONGEST: usize = 11;
+const TEXT: usize = (6 * (LONGEST + 1) + 2) * (ANCHORS + 1);
+
+pub struct Inputs {
+    numbers: Vec<f64>,
+    paths: Vec<(Path, BezPath)>,
+}
+
+impl Inputs {
+    pub fn draw(random: &mut Random) -> Inputs {
+        Inputs {
+            numbers: (0..NUMBERS).map(|_| uniform(random)).collect(),
+            paths: (0..4 * PATHS).map(|_| curve(random)).collect(),
+        }
+    }
+
+    pub fn races(&self) -> Vec<Race<'_>> {
+        let Inputs { numbers, paths } = self;
+        vec![
+            Race {
+                name: "write_num",
+                calls: CALLS,
+                inputs: NUMBERS,
+                ours: Box::new(move |at| {
+                    let (mut out, mut answer) = ([0; LONGEST], [0; 4]);
+                    for &x in &numbers[at] {
+                        let refusal = ffi::write_num(x, &mut out, &mut answer);
+                        assert_eq!(refusal, ACCEPTED);
+                        black_box(&out);
+                    }
+                }),
+                original: Box::new(move |at| {
+                    for &x in &numbers[at] {
+                        black_box(&original_write_num(x));
+                    }
+                }),
+            },
+            Race {
+                name: "to_svg_d, 64 anchors",
+                calls: PATHS,
+                inputs: paths.len(),
+                ours: Box::new(move |at| {
+                    let (mut out, mut answer) = ([0; TEXT], [0; 4]);
+                    for (path, _) in &paths[at] {
+                        let Path { shapes, numbers } = path;
+                        let refusal = ffi::to_svg_d(shapes, numbers, &mut out, &mut answer);
+                        assert_eq!(refusal, ACCEPTED);
+                        black_box(&out);
+                    }
+                }),
+                original: Box::new(move |at| {
+                    for (_, path) in &paths[at] {
+                        black_box(&original_to_svg_d(path));
+                    }
+                }),
+            },
+        ]
+    }
+}
+
+// The original's functions as calls, which the library's cannot but be.
+
+#[inline(never)]
+fn original_write_num(x: f64) -> String {
+    let mut text = String::with_capacity(LONGEST);
+    bezier::write_num(&mut text, x);
+    text
+}
+
+#[inline(never)]
+fn original_to_svg_d(path: &BezPath) -> String {
+    bezier::to_svg_d(path)
+}
+
+/// A closed subpath with all its handles.
+fn curve(random: &mut Random) -> (Path, BezPath) {
+    let mut point = || P::new(0.01 * uniform(random), 0.01 * uniform(random));
+    let anchors = (0..ANCHORS)
+        .map(|_| Anchor {
+            p: point(),
+            h_in: point(),
+            h_out: point(),
+        })
+        .collect();
+    let path = vec![SubPath {
+        anchors,
+        closed: true,
+    }];
+    (Path::of(&path), path)
+}
