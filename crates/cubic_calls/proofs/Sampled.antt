@@ -1,11 +1,9 @@
--- For `sample`: how many points there can be, and that tests which agree at every place agree on all. Assumes nothing.
-use mathlib.Core.Path.{_≡_, refl}
+-- How many points `sample` can give. Assumes nothing.
 use mathlib.Core.Bool.{Bool, true, false, cond}
 use mathlib.Core.List.{List}
-use Prim.Native.Nat.{ℕ, zero, suc, _+_, _*_, _≤_, _<_, zero-le, suc-le-suc}
+use Prim.Native.Nat.{ℕ, _+_, _*_, _≤_}
 use native.Mathlib.Omega.{arith}
 use lib.Dec.{ltb}
-use Rattle.views.specs.Search.{all}
 use Rattle.geom.specs.declared.point.P.{P}
 use Rattle.cubic.specs.Sample.{straight, steps, sampleCount}
 
@@ -18,8 +16,3 @@ few-points c n h = go (straight c) (ltb n 1)
     go true b = omega arith
     go false true = omega arith
     go false false = omega arith
-
-pub all-cong : (p q : ℕ → Bool) (n : ℕ) → ((k : ℕ) → k < n → p k ≡ q k) → all p n ≡ all q n
-unfolding all
-all-cong p q zero h = refl
-all-cong p q (suc n) h = rw (h zero (suc-le-suc zero-le), all-cong (λ k. p (suc k)) (λ k. q (suc k)) n (λ k l. h (suc k) (suc-le-suc l)))

@@ -1,9 +1,8 @@
--- Steps and neighbours: `prev` and `next` are 000's, they stay in the subpath, and each is one step. Assumes nothing.
+-- Steps and neighbours: `prev` and `next` stay in the subpath, and each is one step. Assumes nothing.
 use mathlib.Core.Path.{_≡_, refl, sym, ap, _∙_}
 use mathlib.Core.Logic.{_⊎_, inl, inr, ⊎-elim}
 use mathlib.Core.Bool.{Bool, true, false, _&&_, _||_, or-false}
-use Prim.Native.Nat.{ℕ, zero, suc, _+_, _-_, _%_, _≤_, _<_}
-use native.Mathlib.Nat.{mod-eq-of-lt, add-mod-right, mod-self}
+use Prim.Native.Nat.{ℕ, zero, suc, _+_, _-_, _≤_, _<_}
 use native.Mathlib.Omega.{arith}
 use lib.Dec.{leb, ltb}
 use borrow.Author.Tests.{leb-true, le-leb, lt-ltb, le-ltb}
@@ -28,27 +27,6 @@ prev-lt n (suc j) h = omega arith
 
 pub next-lt : (n j : ℕ) → j < n → next n j < n
 next-lt n j h = ⊎-elim (λ (l : n ≤ j + 1). rw (next-round n j l) (omega arith)) (λ (l : j + 1 < n). rw (next-in n j l) l) (order n (j + 1))
-
--- 000's indices
-pub prev-is : (n j : ℕ) → j < n → prev n j ≡ (j + n - 1) % n
-unfolding prev
-prev-is n zero h =
-    let e : 0 + n - 1 ≡ n - 1 = omega arith in
-    sym (ap (λ (x : ℕ). x % n) e ∙ mod-eq-of-lt (omega arith))
-prev-is n (suc j) h =
-    let e : suc j + n - 1 ≡ j + n = omega arith in
-    sym (ap (λ (x : ℕ). x % n) e ∙ add-mod-right j n ∙ mod-eq-of-lt (omega arith))
-
-pub next-is : (n j : ℕ) → j < n → next n j ≡ (j + 1) % n
-next-is n j h = ⊎-elim round within (order n (j + 1))
-  where
-    round : n ≤ j + 1 → next n j ≡ (j + 1) % n
-    round l =
-        let e : j + 1 ≡ n = omega arith in
-        next-round n j l ∙ sym (ap (λ (x : ℕ). x % n) e ∙ mod-self n)
-
-    within : j + 1 < n → next n j ≡ (j + 1) % n
-    within l = next-in n j l ∙ sym (mod-eq-of-lt l)
 
 pub next-prev : (n j : ℕ) → j < n → next n (prev n j) ≡ j
 unfolding prev

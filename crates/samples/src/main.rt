@@ -2,7 +2,9 @@
 use cubic_calls::Filled;
 use cubic_calls::Number;
 use cubic_calls::Point;
+use cut_calls::Outline;
 use geom::P;
+use svg::Answer;
 
 // The bits of x: all zero for a NaN, which no piece has.
 fn bits(x: f64) -> u64 {
@@ -76,6 +78,92 @@ fn halves() {
     say(b"\n");
 }
 
+// A text of at most 128 bytes, after a blank.
+fn text(a: Answer, bytes: &[u8]) {
+    match a {
+        Answer::Refused(n, place) => refused(n, place),
+        Answer::Accepted(n) => {
+            say(b" ");
+            if n <= bytes.len() {
+                say(&bytes[..n]);
+            }
+        }
+    }
+}
+
+fn writes(label: &[u8], x: f64) {
+    say(label);
+    let mut bytes = [0u8; 128];
+    let a = svg::write_num(x, &mut bytes);
+    text(a, &bytes);
+    say(b"\n");
+}
+
+// The square of side 8, its corners cut: how many subpaths and anchors, then its text.
+fn square(label: &[u8], radii: &[f64], kind: u32) {
+    say(label);
+    let shapes = [2147483652u32];
+    let anchors = [
+        0.0,
+        0.0,
+        0.0,
+        0.0,
+        0.0,
+        0.0,
+        8.0,
+        0.0,
+        8.0,
+        0.0,
+        8.0,
+        0.0,
+        8.0,
+        8.0,
+        8.0,
+        8.0,
+        8.0,
+        8.0,
+        0.0,
+        8.0,
+        0.0,
+        8.0,
+        0.0,
+        8.0,
+    ];
+    let mut to_shapes = [0u32; 1];
+    let mut to = [0.0f64; 48];
+    let a = cut_calls::cut_corners(&shapes, &anchors, radii, kind, &mut to_shapes, &mut to);
+    outline(a);
+    let mut bytes = [0u8; 128];
+    let b = svg::to_svg_d(&to_shapes, &to, &mut bytes);
+    text(b, &bytes);
+    say(b"\n");
+}
+
+fn outline(a: Outline) {
+    match a {
+        Outline::Refused(n, place) => refused(n, place),
+        Outline::Accepted(subpaths, count) => {
+            say(b" ");
+            io::print_decimal(1, subpaths as u64);
+            say(b" ");
+            io::print_decimal(1, count as u64);
+        }
+    }
+}
+
+// One open subpath of so many anchors, all at one point.
+fn many(label: &[u8], word: u32) {
+    say(label);
+    let shapes = [word];
+    let anchors = [0.0f64; 3078];
+    let radii = [0.0f64; 513];
+    let mut to_shapes = [0u32; 1];
+    let mut to = [0.0f64; 3078];
+    let a = cut_calls::cut_corners(&shapes, &anchors, &radii, 0, &mut to_shapes, &mut to);
+    outline(a);
+    say(b"\n");
+}
+
 fn main() {
     say(b"root 2");
     number(root::root(2.0));
@@ -86,4 +174,15 @@ fn main() {
     len_of(b"len(the next f64,0)", 131072.00000000003, 0.0);
     middle();
     halves();
+    writes(b"0.0625 writes", 0.0625);
+    writes(b"0.1875 writes", 0.1875);
+    writes(b"-0.0004 writes", -0.0004);
+    writes(b"131072 writes", 131072.0);
+    square(b"square, chamfer", &[2.0, 0.0, 0.0, 0.0], 2);
+    square(b"square, round", &[2.0, 0.0, 0.0, 0.0], 0);
+    square(b"square, inverted", &[2.0, 0.0, 0.0, 0.0], 1);
+    square(b"square, radius 100", &[100.0, 100.0, 100.0, 100.0], 2);
+    square(b"square, radius 1e-9", &[1e-9, 1e-9, 1e-9, 1e-9], 2);
+    many(b"512 anchors", 512);
+    many(b"513 anchors", 513);
 }

@@ -21,6 +21,12 @@ all-false p zero k l e = absurd (not-suc-le-zero l)
 all-false p (suc n) zero l e = rw e
 all-false p (suc n) (suc k) l e = rw (all-false (λ j. p (suc j)) n k (le-of-suc-le-suc l) e) (and-false (p zero))
 
+-- tests that agree at every index agree on all
+pub all-cong : (p q : ℕ → Bool) (n : ℕ) → ((k : ℕ) → k < n → p k ≡ q k) → all p n ≡ all q n
+unfolding all
+all-cong p q zero h = refl
+all-cong p q (suc n) h = rw (h zero (suc-le-suc zero-le), all-cong (λ k. p (suc k)) (λ k. q (suc k)) n (λ k l. h (suc k) (suc-le-suc l)))
+
 pub first-all : (p : ℕ → Bool) (n : ℕ) → ((k : ℕ) → k < n → p k ≡ true) → firstFalse p n ≡ n
 unfolding firstFalse
 first-all p zero h = refl

@@ -11,6 +11,7 @@ use borrow.Author.Needs.{needs}
 use borrow.Author.Tests.{ltb-true, ltb-false, le-leb, lt-leb}
 use Rattle.views.specs.View.{entry}
 use Rattle.views.specs.Search.{all}
+use Rattle.views.proofs.Searches.{all-cong}
 use Rattle.views.proofs.Laws.{at-overwrite, overwrite-cong}
 use Rattle.real.specs.Limit.{inLimit}
 use Rattle.geom.specs.Flat.{coordinates}
@@ -34,7 +35,7 @@ use Rattle.cubic_calls.proofs.Outcomes.{
   kept,
   written,
 }
-use Rattle.cubic_calls.proofs.Sampled.{few-points, all-cong}
+use Rattle.cubic_calls.proofs.Sampled.{few-points}
 use Rattle.cubic_calls.proofs.curves.sample.Statement.{statement}
 use Rattle.cubic_calls.proofs.curves.sample.Tie as tie
 
