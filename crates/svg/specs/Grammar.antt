@@ -1,6 +1,6 @@
 -- A reader of SVG path data: the grammar of SVG 1.1 (Second Edition) section 8.3.9, for the absolute commands M, L, C and Z. Assumes nothing.
--- The text in quotes is the section's. 'The processing of the BNF must consume as much of a given BNF production as possible': a number ends
--- where the next byte cannot go on with it, so that '1-2' and '1.5.5' are two numbers each.
+-- The section's productions stand beside what reads them. A production takes as much of the text as it can: a number ends where the next byte
+-- cannot go on with it, so that '1-2' and '1.5.5' are two numbers each.
 use Prim.Native.Nat.{ℕ, suc, _+_, _-_, _*_}
 use mathlib.Core.Bool.{Bool, true, false, _&&_, _||_, cond}
 use mathlib.Core.List.{List, [], _∷_, _++_}
