@@ -102,11 +102,15 @@ short c =
     (λ w. few-numbers (length (shapes (at e))) _ (to-shapes e) (to e) (omega (arith, ltb-true)))
     (c .if1 .came)
 
+long : (c : tie.Else2) → at (c .before .before) .assemble .result * 6 ≤ length (to (c .before .before))
+long c = omega (arith, ltb-false)
+
 roomy : (c : tie.Else2) → let e = c .before .before in roomFor (length (shapes (at e))) (length (outline (at e))) (to-shapes e) (to e) ≡ true
 roomy c =
     let e = c .before .before in
     let n = at e .assemble .ensures .0 in
-    room _ _ (to-shapes e) (to e) (omega arith) (omega (arith, ltb-false))
+    let l = long c in
+    room _ _ (to-shapes e) (to e) (omega arith) (omega arith)
 
 slice-aggregate-first-bad-anchor : tie.Need-slice-aggregate-first-bad-anchor
 slice-aggregate-first-bad-anchor c = sym (length-take-le _ _ (omega arith))
@@ -151,7 +155,8 @@ copy-requires c κs =
     let p = c .before .before .before .before .before .before .before .before .before .before .before .before .before .before .before .before .before in
     let f = fits p in
     let n = p .assemble .ensures .0 in
-    (omega arith, search needs)
+    let l = long (c .before .before .before .before .before .before .before) in
+    (omega arith, omega arith)
 
 returns-3 : tie.Need-returns-3
 unfolding handedAnswer handedShapes handedAnchors
