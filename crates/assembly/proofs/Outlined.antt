@@ -13,13 +13,13 @@ use Rattle.views.specs.View.{tabulate, overwrite}
 use Rattle.views.specs.Search.{count}
 use Rattle.views.proofs.Laws.{length-tabulate, as-tabulate, tabulate-more, length-overwrite, at-overwrite}
 use Rattle.views.proofs.Searches.{count-more, count-same}
-use Rattle.path.specs.Shape.{countOf, closedOf, total, wordAt, start}
+use Rattle.path.specs.Shape.{countOf, closedOf, total, wordAt, wordOf, start}
 use Rattle.path.proofs.Shapes.{total-next, total-in, total-end}
 use Rattle.path.specs.declared.anchor.Anchor.{Anchor}
 use Rattle.cut.specs.declared.places.Place.{Place}
 use Rattle.cut.specs.Outline.{joined, anchorsAt, heldBack, assembled}
 use Rattle.cut.proofs.Outlines.{assembled-length, assembled-same}
-use Rattle.assembly.specs.Assembled.{subpathOutline, outlineUpTo, outlineOf, wordOf, outlineShapes, outlineWords}
+use Rattle.assembly.specs.Assembled.{subpathOutline, outlineUpTo, outlineOf, outlineShapes, outlineWords}
 
 -- ---- counts
 

@@ -1,16 +1,14 @@
 -- The outline that places make of a path, and what the lists for it hold afterwards. Assumes nothing.
 use Prim.Native.Nat.{ℕ, zero, suc, _+_, _*_}
 use mathlib.Core.Bool.{Bool, cond}
-use mathlib.Core.List.{List, [], _∷_, _++_}
+use mathlib.Core.List.{List, [], _++_}
 use lib.Dec.{leb}
 use lib.ListN.{length, getD}
-use lib.Ieee.{Float, nan}
-use Rattle.views.specs.View.{tabulate, overwrite}
-use Rattle.geom.specs.Point.{point}
+use lib.Ieee.{Float}
+use Rattle.views.specs.View.{tabulate}
 use Rattle.path.specs.declared.anchor.Anchor.{Anchor}
-use Rattle.path.specs.Anchor.{withoutHandles}
-use Rattle.path.specs.Flat.{anchorAt, anchorNumbers, putAnchor}
-use Rattle.path.specs.Shape.{countOf, closedOf, wordAt, start}
+use Rattle.path.specs.Flat.{anchorAt}
+use Rattle.path.specs.Shape.{countOf, closedOf, wordAt, wordOf, start}
 use Rattle.cut.specs.declared.places.Place.{Place}
 use Rattle.cut.specs.Outline.{assembled}
 
@@ -34,10 +32,6 @@ outlineUpTo shapes f (suc m) = outlineUpTo shapes f m ++ subpathOutline shapes f
 unfoldable pub outlineOf : List ℕ → (ℕ → Place) → List Anchor
 outlineOf shapes f = outlineUpTo shapes f (length shapes)
 
--- a shape word
-unfoldable pub wordOf : ℕ → Bool → ℕ
-wordOf n closed = cond closed (n + 2147483648) n
-
 -- the shape word of subpath s of the outline
 unfoldable pub outlineShapes : List ℕ → (ℕ → Place) → ℕ → ℕ
 outlineShapes shapes f s = wordOf (length (subpathOutline shapes f s)) (closedOf (wordAt shapes s))
@@ -45,12 +39,3 @@ outlineShapes shapes f s = wordOf (length (subpathOutline shapes f s)) (closedOf
 -- all of them
 abbrev pub outlineWords : List ℕ → (ℕ → Place) → List ℕ
 outlineWords shapes f = tabulate (length shapes) (outlineShapes shapes f)
-
--- a list of numbers with these anchors in front, the rest as it was
-unfoldable pub listed : List Anchor → List Float → List Float
-listed ps xs = overwrite (length ps * 6) (anchorNumbers (λ i. getD ps i (withoutHandles (point nan nan)))) xs
-
--- a list of numbers with these anchors put one after the other, from place k on
-unfoldable pub putAll : List Float → ℕ → List Anchor → List Float
-putAll xs k [] = xs
-putAll xs k (p ∷ ps) = putAll (putAnchor xs k p) (k + 1) ps

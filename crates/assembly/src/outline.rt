@@ -6,8 +6,9 @@ ghost use lib.Dec.{leb, ltb, eqb};
 ghost use lib.ListN.{length, getD};
 ghost use Rattle.views.specs.View.{overwrite};
 ghost use Rattle.path.specs.Shape.{total};
+ghost use Rattle.path.specs.Flat.{putAll, listed};
 ghost use Rattle.cut.specs.Outline.{anchorsAt, assembled};
-ghost use Rattle.assembly.specs.Assembled.{placeRead, placesFrom, listed, outlineOf, outlineShapes, wordOf, putAll};
+ghost use Rattle.assembly.specs.Assembled.{placeRead, placesFrom, outlineOf, outlineShapes};
 
 // Whether place k is cut: the top bit of its flag.
 fn is_cut(flags: &[u32], k: usize) -> bool
@@ -113,20 +114,9 @@ pub fn assemble(
         let n = path::count_of(shapes[s]);
         let closed = path::closed_of(shapes[s]);
         let next = assemble_subpath(numbers, flags, first, n, closed, to, at);
-        to_shapes[s] = word(next - at, closed);
+        to_shapes[s] = path::word(next - at, closed);
         at = next;
         first += n;
     }
     at
-}
-
-// The shape word of a subpath of n anchors.
-fn word(n: usize, closed: bool) -> u32
-    requires { ⌜ n ≤ 1024 ⌝ }
-    ensures { λ r. ⌜ r ≡ wordOf n closed ⌝ }
-{
-    if closed {
-        return (n as u32) + 2147483648;
-    }
-    n as u32
 }

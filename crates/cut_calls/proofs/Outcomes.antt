@@ -24,7 +24,8 @@ use Rattle.path.proofs.Limits.{GoodBelow, Least}
 use Rattle.path.proofs.Places.{anchor-number}
 use Rattle.corner.specs.declared.cut.CornerKind.{CornerKind}
 use Rattle.cut.specs.declared.places.Place.{Place}
-use Rattle.assembly.specs.Assembled.{listed, outlineOf, outlineShapes}
+use Rattle.path.specs.Flat.{listed}
+use Rattle.assembly.specs.Assembled.{outlineOf, outlineShapes}
 use Rattle.assembly.proofs.Outlined.{outline-most, outline-total, words-written}
 use Rattle.cut_calls.specs.declared.calls.Kind.the-variants as kinds
 use Rattle.cut_calls.specs.declared.calls.Outline.the-variants as outline
@@ -37,7 +38,7 @@ use Rattle.cut_calls.specs.Calls.{
   places,
   outlineIn,
   roomFor,
-  tests,
+  cutTests,
   cutVerdict,
   outlineAnswer,
   cutAnswer,
@@ -167,7 +168,7 @@ size-wrong shapes b = go (leb (length shapes) 32) (leb (total shapes) 512)
 module _ (shapes : List ℕ) (anchors radii : List Float) (kind : ℕ) (toShapes : List ℕ) (to : List Float) where
   lists-fail : (leb (length shapes) 32 && (leb (total shapes) 512 && (leb (total shapes * 6) (length anchors) && leb (total shapes) (length radii)))) ≡ false
       → cutVerdict shapes anchors radii kind toShapes to ≡ refused 7 0
-  unfolding cutVerdict verdict firstFailing judge tests holds
+  unfolding cutVerdict verdict firstFailing judge cutTests holds
   lists-fail e = rw e
 
   pub size-fails : sizedOf shapes 512 ≡ Wrong → cutVerdict shapes anchors radii kind toShapes to ≡ refused 7 0
@@ -185,20 +186,20 @@ module _ (shapes : List ℕ) (anchors radii : List Float) (kind : ℕ) (toShapes
   -- past the lists
   module _ (z : Lengths shapes anchors radii) where
     abbrev later : Verdict
-    later = judge (tests shapes anchors radii (isKnown (kindOf kind)) (cutOutline shapes anchors radii (kindOf kind)) toShapes to arguments) 5
+    later = judge (cutTests shapes anchors radii (isKnown (kindOf kind)) (cutOutline shapes anchors radii (kindOf kind)) toShapes to arguments) 5
         (handedVerdict (length shapes) (cutOutline shapes anchors radii (kindOf kind)) toShapes to)
 
     lists-pass : cutVerdict shapes anchors radii kind toShapes to ≡ later
-    unfolding cutVerdict handedVerdict verdict firstFailing judge tests holds
+    unfolding cutVerdict handedVerdict verdict firstFailing judge cutTests holds
     lists-pass = rw (le-leb _ _ (z .words), le-leb _ _ (z .count), le-leb _ _ (z .numbers), le-leb _ _ (z .radius-each))
 
     pub place-fails : (k : ℕ) → Least (placeIn anchors radii) (total shapes) k → cutVerdict shapes anchors radii kind toShapes to ≡ refused 5 k
-    unfolding judge tests
+    unfolding judge cutTests
     place-fails k l = rw (lists-pass, places-fail (placeIn anchors radii) (total shapes) (holds (isKnown (kindOf kind)) (total shapes)) k l)
 
     module _ (good : GoodBelow (placeIn anchors radii) (total shapes)) where
-      places-good : tests shapes anchors radii (isKnown (kindOf kind)) (cutOutline shapes anchors radii (kindOf kind)) toShapes to arguments ≡ holds (isKnown (kindOf kind)) (total shapes)
-      unfolding tests
+      places-good : cutTests shapes anchors radii (isKnown (kindOf kind)) (cutOutline shapes anchors radii (kindOf kind)) toShapes to arguments ≡ holds (isKnown (kindOf kind)) (total shapes)
+      unfolding cutTests
       places-good = places-pass (placeIn anchors radii) (total shapes) (holds (isKnown (kindOf kind)) (total shapes)) good
 
       pub kind-fails : (n : ℕ) → n ≡ total shapes → kindOf kind ≡ kinds.Unknown → cutVerdict shapes anchors radii kind toShapes to ≡ refused 5 n

@@ -3,20 +3,17 @@ use Prim.Native.Nat.{ℕ, zero, suc, _*_}
 use mathlib.Core.Bool.{Bool, true, false, _&&_, cond}
 use mathlib.Core.List.{List, []}
 use lib.Dec.{leb, ltb}
-use lib.ListN.{length, getD}
-use lib.Ieee.{Float, nan}
+use lib.ListN.{length}
+use lib.Ieee.{Float}
 use Rattle.views.specs.View.{entry, overwrite}
 use Rattle.views.specs.Search.{all, firstFalse}
 use Rattle.real.specs.Limit.{inLimit}
 use Rattle.refusal.specs.Order.{Rank, lists, arguments, reference, capacity, result, output, number, Test, passes, fails, holds, judge, Verdict, accepted, refused, verdict}
 use Rattle.path.specs.declared.anchor.Anchor.{Anchor}
-use Rattle.geom.specs.Point.{point}
-use Rattle.path.specs.Anchor.{withoutHandles}
-use Rattle.path.specs.Flat.{numbers}
+use Rattle.path.specs.Flat.{numbers, nth, listed}
 use Rattle.path.specs.Shape.{total}
 use Rattle.path.specs.Limit.{placeIn}
 use Rattle.corner.specs.declared.cut.CornerKind.the-variants.{Round, Inverted, Chamfer}
-use Rattle.assembly.specs.Assembled.{listed}
 use Rattle.cut_calls.specs.declared.calls.Kind.{Kind}
 use Rattle.cut_calls.specs.declared.calls.Kind.the-variants as kinds
 use Rattle.cut_calls.specs.declared.calls.Outline.{Outline}
@@ -49,7 +46,7 @@ places good n after = let k = firstFalse good n in cond (ltb k n) (fails k) afte
 
 -- the six numbers of anchor k of an outline
 unfoldable pub outlineIn : List Anchor → ℕ → Bool
-outlineIn ps k = all (λ i. inLimit (entry (numbers (getD ps k (withoutHandles (point nan nan)))) i)) 6
+outlineIn ps k = all (λ i. inLimit (entry (numbers (nth ps k)) i)) 6
 
 -- the lent lists are long enough for m shape words and so many anchors
 unfoldable pub roomFor : ℕ → ℕ → List ℕ → List Float → Bool
@@ -57,19 +54,19 @@ roomFor m count toShapes to = leb m (length toShapes) && leb (count * 6) (length
 
 -- ---- the call. A kind that is not known stands after the places, at the anchor count, as every loose argument
 
-unfoldable pub tests : List ℕ → List Float → List Float → Bool → List Anchor → List ℕ → List Float → Rank → Test
-tests shapes anchors radii known outline toShapes to lists =
+unfoldable pub cutTests : List ℕ → List Float → List Float → Bool → List Anchor → List ℕ → List Float → Rank → Test
+cutTests shapes anchors radii known outline toShapes to lists =
     holds (leb (length shapes) 32 && (leb (total shapes) 512 && (leb (total shapes * 6) (length anchors) && leb (total shapes) (length radii)))) 0
-tests shapes anchors radii known outline toShapes to arguments = places (placeIn anchors radii) (total shapes) (holds known (total shapes))
-tests shapes anchors radii known outline toShapes to reference = passes
-tests shapes anchors radii known outline toShapes to capacity = passes
-tests shapes anchors radii known outline toShapes to result = places (outlineIn outline) (length outline) passes
-tests shapes anchors radii known outline toShapes to output = holds (roomFor (length shapes) (length outline) toShapes to) 0
+cutTests shapes anchors radii known outline toShapes to arguments = places (placeIn anchors radii) (total shapes) (holds known (total shapes))
+cutTests shapes anchors radii known outline toShapes to reference = passes
+cutTests shapes anchors radii known outline toShapes to capacity = passes
+cutTests shapes anchors radii known outline toShapes to result = places (outlineIn outline) (length outline) passes
+cutTests shapes anchors radii known outline toShapes to output = holds (roomFor (length shapes) (length outline) toShapes to) 0
 
 unfoldable pub cutVerdict : List ℕ → List Float → List Float → ℕ → List ℕ → List Float → Verdict
 cutVerdict shapes anchors radii kind toShapes to =
     let k = kindOf kind in
-    verdict (tests shapes anchors radii (isKnown k) (cutOutline shapes anchors radii k) toShapes to)
+    verdict (cutTests shapes anchors radii (isKnown k) (cutOutline shapes anchors radii k) toShapes to)
 
 unfoldable pub outlineAnswer : Verdict → ℕ → ℕ → Outline
 outlineAnswer accepted m count = outline.Accepted m count

@@ -7,7 +7,7 @@ use lib.Ieee.{Float}
 use Rattle.views.specs.View.{entry}
 use Rattle.path.specs.declared.anchor.Anchor.{Anchor}
 use Rattle.path.specs.Flat.{anchorAt}
-use Rattle.path.specs.Shape.{countOf, closedOf, wordAt, start}
+use Rattle.path.specs.Shape.{countOf, closedOf, wordAt, wordOf, start}
 use Rattle.corner.specs.declared.cut.CornerKind.{CornerKind}
 use Rattle.cut.specs.declared.subpath.Sub.{Sub}
 use Rattle.cut.specs.View.{View}
@@ -15,7 +15,6 @@ use Rattle.cut.specs.Subpath.{viewOf}
 use Rattle.cut.specs.Places.{isCut, placeAt, placeNumbers}
 use Rattle.cut.specs.Outline.{cutCorners}
 use Rattle.cut.specs.Rows.{flagOf}
-use Rattle.assembly.specs.Assembled.{wordOf}
 
 -- subpath s of a path
 unfoldable pub subAt : List ℕ → ℕ → Sub

@@ -1,4 +1,5 @@
 pub mod Shapes
 pub mod Places
+pub mod Puts
 pub mod Limits
 pub mod Distances

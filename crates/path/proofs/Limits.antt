@@ -43,7 +43,7 @@ module _ (good : ℕ → Bool) where
   none-at n h = rw (first-all good n h, le-ltb n n (le-refl n))
 
   -- every place is good, or one is the least that is not
-  search-to : (n : ℕ) → GoodBelow good n ⊎ ((k : ℕ) × Least good n k)
+  pub search-to : (n : ℕ) → GoodBelow good n ⊎ ((k : ℕ) × Least good n k)
   search-to zero = inl (below-none _)
   search-to (suc n) = go (good n) refl (search-to n)
     where

@@ -1,11 +1,12 @@
 -- Anchors in a flat list: the six numbers of place k stand at 6k .. 6k + 5, p, h_in, h_out, x before y. Assumes nothing.
 use Prim.Native.Nat.{ℕ, _+_, _*_, _/_, _%_}
 use mathlib.Core.List.{List, [], _∷_}
-use lib.ListN.{set}
-use lib.Ieee.{Float}
-use Rattle.views.specs.View.{entry}
+use lib.ListN.{length, getD, set}
+use lib.Ieee.{Float, nan}
+use Rattle.views.specs.View.{entry, overwrite}
 use Rattle.geom.specs.Point.{point}
 use Rattle.path.specs.declared.anchor.Anchor.{Anchor}
+use Rattle.path.specs.Anchor.{withoutHandles}
 
 -- the anchor at place k
 abbrev pub anchorAt : List Float → ℕ → Anchor
@@ -28,3 +29,16 @@ anchorNumbers f j = entry (numbers (f (j / 6))) (j % 6)
 abbrev pub putAnchor : List Float → ℕ → Anchor → List Float
 putAnchor xs k a =
     set (set (set (set (set (set xs (k * 6) (a .p .x)) (k * 6 + 1) (a .p .y)) (k * 6 + 2) (a .«h_in» .x)) (k * 6 + 3) (a .«h_in» .y)) (k * 6 + 4) (a .«h_out» .x)) (k * 6 + 5) (a .«h_out» .y)
+
+-- xs with these anchors put one after the other, from place k on
+unfoldable pub putAll : List Float → ℕ → List Anchor → List Float
+putAll xs k [] = xs
+putAll xs k (p ∷ ps) = putAll (putAnchor xs k p) (k + 1) ps
+
+-- anchor k of a list of anchors, and one of nan past the end
+unfoldable pub nth : List Anchor → ℕ → Anchor
+nth ps k = getD ps k (withoutHandles (point nan nan))
+
+-- xs with these anchors in front, the rest as it was
+unfoldable pub listed : List Anchor → List Float → List Float
+listed ps xs = overwrite (length ps * 6) (anchorNumbers (nth ps)) xs

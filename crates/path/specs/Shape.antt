@@ -26,6 +26,15 @@ wordAt shapes s = getD shapes s 0
 abbrev pub start : List ℕ → ℕ → ℕ
 start shapes s = total (take s shapes)
 
+-- the word of a subpath of n anchors
+unfoldable pub wordOf : ℕ → Bool → ℕ
+wordOf n closed = cond closed (n + 2147483648) n
+
+-- the subpath in which place k lies
+unfoldable pub subOf : List ℕ → ℕ → ℕ
+subOf [] k = 0
+subOf (w ∷ ws) k = cond (ltb k (countOf w)) 0 (suc (subOf ws (k - countOf w)))
+
 -- a segment starts at anchor a of n: `segments` of 000
 unfoldable pub isSegment : ℕ → Bool → ℕ → Bool
 isSegment n closed a = ltb (a + 1) n || closed && (ltb 1 n && eqb (a + 1) n)

@@ -21,3 +21,5 @@ pub use shape::has_segment;
 pub use shape::next;
 pub use shape::prev;
 pub use shape::size_test;
+pub use shape::total_of;
+pub use shape::word;

@@ -2,7 +2,7 @@
 ghost use mathlib.Core.Path.{_≡_};
 ghost use Prim.Native.Nat.{_≤_, _<_};
 ghost use lib.ListN.{length};
-ghost use Rattle.path.specs.Shape.{countOf, closedOf, total, isSegment, prev, next, sizedOf};
+ghost use Rattle.path.specs.Shape.{countOf, closedOf, wordOf, total, isSegment, prev, next, sizedOf};
 
 pub fn count_of(word: u32) -> usize
     ensures { λ r. ⌜ r ≡ countOf word ⌝ }
@@ -14,6 +14,17 @@ pub fn closed_of(word: u32) -> bool
     ensures { λ r. ⌜ r ≡ closedOf word ⌝ }
 {
     word >= 2147483648
+}
+
+// The shape word of a subpath of n anchors.
+pub fn word(n: usize, closed: bool) -> u32
+    requires { ⌜ n ≤ 1024 ⌝ }
+    ensures { λ r. ⌜ r ≡ wordOf n closed ⌝ }
+{
+    if closed {
+        return (n as u32) + 2147483648;
+    }
+    n as u32
 }
 
 // Whether a subpath of n anchors has a segment that starts at anchor a.
@@ -52,7 +63,7 @@ pub enum Sized {
 }
 
 // The anchor count of a path of at most 32 subpaths.
-fn total_of(shapes: &[u32]) -> usize
+pub fn total_of(shapes: &[u32]) -> usize
     requires { ⌜ length (now shapes) ≤ 32 ⌝ }
     ensures { λ r. ⌜ r ≡ total (now (shapes .entry)) ⌝ }
 {

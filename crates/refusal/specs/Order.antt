@@ -45,3 +45,12 @@ firstFailing (r ∷ rs) test = judge (test r) (number r) (firstFailing rs test)
 -- what a call's tests come to
 unfoldable pub verdict : (Rank → Test) → Verdict
 verdict test = firstFailing order test
+
+-- six tests, one of each rank
+unfoldable pub tests : Test → Test → Test → Test → Test → Test → Rank → Test
+tests l a r c m o lists = l
+tests l a r c m o arguments = a
+tests l a r c m o reference = r
+tests l a r c m o capacity = c
+tests l a r c m o result = m
+tests l a r c m o output = o

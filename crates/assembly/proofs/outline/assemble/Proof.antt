@@ -9,8 +9,9 @@ use Rattle.views.proofs.Laws.{fill-more, keep-more, as-overwrite}
 use Rattle.path.specs.Shape.{total, start}
 use Rattle.path.proofs.Shapes.{total-next, total-in, total-end}
 use Rattle.cut.specs.Outline.{assembled}
-use Rattle.assembly.specs.Assembled.{placeRead, placesFrom, subpathOutline, outlineUpTo, outlineOf, outlineShapes, putAll}
-use Rattle.assembly.proofs.Puts.{put-next, put-listed}
+use Rattle.assembly.specs.Assembled.{placeRead, placesFrom, subpathOutline, outlineUpTo, outlineOf, outlineShapes}
+use Rattle.path.specs.Flat.{putAll}
+use Rattle.path.proofs.Puts.{put-next, put-listed}
 use Rattle.assembly.proofs.Outlined.{assembled-most, outline-next, outline-most}
 use Rattle.assembly.proofs.outline.assemble.Statement.{statement}
 use Rattle.assembly.proofs.outline.assemble.Tie as tie

@@ -9,8 +9,9 @@ use lib.ListN.{length, length-append}
 use borrow.Author.Needs.{needs}
 use Rattle.path.specs.Flat.{anchorAt}
 use Rattle.cut.specs.Outline.{joined, anchorsAt, heldBack, assembled}
-use Rattle.assembly.specs.Assembled.{placeRead, placesFrom, putAll}
-use Rattle.assembly.proofs.Puts.{put-next}
+use Rattle.assembly.specs.Assembled.{placeRead, placesFrom}
+use Rattle.path.specs.Flat.{putAll}
+use Rattle.path.proofs.Puts.{put-next}
 use Rattle.assembly.proofs.Outlined.{subpath-most, joined-next}
 use Rattle.assembly.proofs.outline.assemble_subpath.Statement.{statement}
 use Rattle.assembly.proofs.outline.assemble_subpath.Tie as tie

@@ -3,7 +3,8 @@ use mathlib.Core.Path.{refl}
 use borrow.Author.Needs.{needs}
 use borrow.Author.Tests.{not-true, not-false}
 use Rattle.cut.specs.Outline.{anchorsAt}
-use Rattle.assembly.specs.Assembled.{placeRead, putAll}
+use Rattle.path.specs.Flat.{putAll}
+use Rattle.assembly.specs.Assembled.{placeRead}
 use Rattle.assembly.proofs.outline.put_anchors.Statement.{statement}
 use Rattle.assembly.proofs.outline.put_anchors.Tie as tie
 

@@ -16,7 +16,8 @@ use Rattle.path.specs.Shape.{total}
 use Rattle.path.specs.Limit.{anchorIn, firstBad}
 use Rattle.path.proofs.Limits.{GoodBelow, Least, first-is, none-is}
 use Rattle.cut.specs.declared.places.Place.{Place}
-use Rattle.assembly.specs.Assembled.{placeRead, listed, outlineOf}
+use Rattle.path.specs.Flat.{listed}
+use Rattle.assembly.specs.Assembled.{placeRead, outlineOf}
 use Rattle.cut_calls.specs.Calls.{outlineIn, roomFor, handedAnswer, handedShapes, handedAnchors}
 use Rattle.cut_calls.proofs.Outcomes.{
   outline-few,

@@ -6,16 +6,13 @@ use Prim.Native.Nat.{ℕ, zero, suc, _+_, _*_, _/_, _%_, _≤_, _<_}
 use native.Mathlib.Nat.{add-zero, not-suc-le-zero}
 use native.Mathlib.Omega.{arith}
 use lib.Dec.{lit<}
-use lib.ListN.{length, getD}
+use lib.ListN.{length}
 use lib.Ieee.{Float, nan}
 use Rattle.views.specs.View.{entry}
 use Rattle.views.proofs.Laws.{as-overwrite}
-use Rattle.geom.specs.Point.{point}
 use Rattle.path.specs.declared.anchor.Anchor.{Anchor}
-use Rattle.path.specs.Anchor.{withoutHandles}
-use Rattle.path.specs.Flat.{anchorAt, numbers, anchorNumbers, putAnchor}
+use Rattle.path.specs.Flat.{anchorAt, numbers, anchorNumbers, putAnchor, putAll, nth, listed}
 use Rattle.path.proofs.Places.{length-put, put-out, put-in}
-use Rattle.assembly.specs.Assembled.{listed, putAll}
 
 length-put-all : (ps : List Anchor) (xs : List Float) (k : ℕ) → length (putAll xs k ps) ≡ length xs
 unfolding putAll
@@ -42,12 +39,9 @@ put-past (p ∷ ps) xs k j o =
     put-past ps (putAnchor xs k p) (k + 1) j (⊎-elim (λ h. inl (omega arith)) (λ h. inr (omega arith)) o)
     ∙ put-out xs k p j (⊎-elim (λ h. inl h) (λ h. inr (omega arith)) o)
 
-abbrev none : Anchor
-none = withoutHandles (point nan nan)
-
 put-within : (ps : List Anchor) (xs : List Float) (k i r : ℕ) → (k + length ps) * 6 ≤ length xs → i < length ps → r < 6
-    → entry (putAll xs k ps) ((k + i) * 6 + r) ≡ entry (numbers (getD ps i none)) r
-unfolding putAll
+    → entry (putAll xs k ps) ((k + i) * 6 + r) ≡ entry (numbers (nth ps i)) r
+unfolding putAll nth
 put-within [] xs k i r room l m = absurd (not-suc-le-zero l)
 put-within (p ∷ ps) xs k zero r room l m =
     let e : (k + 0) * 6 + r ≡ k * 6 + r = omega arith in
@@ -61,19 +55,19 @@ pub put-listed : (ps : List Anchor) (xs : List Float) → length ps * 6 ≤ leng
 unfolding listed anchorNumbers
 put-listed ps xs room = as-overwrite nan (putAll xs 0 ps) xs _ _ (length-put-all ps xs 0) below (λ j l. put-past ps xs 0 j (inr (omega arith)))
   where
-    below : (j : ℕ) → j < length ps * 6 → entry (putAll xs 0 ps) j ≡ anchorNumbers (λ i. getD ps i none) j
+    below : (j : ℕ) → j < length ps * 6 → entry (putAll xs 0 ps) j ≡ anchorNumbers (nth ps) j
     below j l =
         let e : j ≡ (0 + j / 6) * 6 + j % 6 = omega arith in
         ap (entry (putAll xs 0 ps)) e ∙ put-within ps xs 0 (j / 6) (j % 6) (omega arith) (omega arith) (omega arith)
 
 -- and an anchor of them reads back
-pub listed-at : (ps : List Anchor) (xs : List Float) (k : ℕ) → length ps * 6 ≤ length xs → k < length ps → anchorAt (listed ps xs) k ≡ getD ps k (withoutHandles (point nan nan))
+pub listed-at : (ps : List Anchor) (xs : List Float) (k : ℕ) → length ps * 6 ≤ length xs → k < length ps → anchorAt (listed ps xs) k ≡ nth ps k
 unfolding numbers
 listed-at ps xs k room l =
     ap (λ z. anchorAt z k) (sym (put-listed ps xs room))
     ∙ rw (rw add-zero at (number 0 (lit< tt)), number 1 (lit< tt), number 2 (lit< tt), number 3 (lit< tt), number 4 (lit< tt), number 5 (lit< tt))
   where
-    number : (r : ℕ) → r < 6 → entry (putAll xs 0 ps) (k * 6 + r) ≡ entry (numbers (getD ps k none)) r
+    number : (r : ℕ) → r < 6 → entry (putAll xs 0 ps) (k * 6 + r) ≡ entry (numbers (nth ps k)) r
     number r m =
         let e : k * 6 + r ≡ (0 + k) * 6 + r = omega arith in
         ap (entry (putAll xs 0 ps)) e ∙ put-within ps xs 0 k r (omega arith) l m

@@ -1,8 +1,8 @@
--- `assembly::outline::word` meets its contract. Assumes nothing.
+-- `path::shape::word` meets its contract. Assumes nothing.
 use borrow.Author.Needs.{needs}
-use Rattle.assembly.specs.Assembled.{wordOf}
-use Rattle.assembly.proofs.outline.word.Statement.{statement}
-use Rattle.assembly.proofs.outline.word.Tie as tie
+use Rattle.path.specs.Shape.{wordOf}
+use Rattle.path.proofs.shape.word.Statement.{statement}
+use Rattle.path.proofs.shape.word.Tie as tie
 
 returns : tie.Need-returns
 unfolding wordOf
