@@ -53,7 +53,7 @@ const CASES: u64 = 1_000_000;
 const ROOTS: u64 = 2;
 
 /// Numbers that are written, for each case of another call.
-const NUMERALS: u64 = 2;
+const NUMERALS: u64 = 10;
 
 /// Drawings and paths, each of which has up to thousands of numbers.
 fn drawings(cases: u64) -> u64 {
