@@ -1,7 +1,9 @@
 // Lengths along a curve, by a running sum of its 128 chords.
 ghost use mathlib.Core.Path.{_≡_};
+ghost use Prim.Native.Nat.{_+_};
+ghost use lib.ListN.{length};
 ghost use lib.Ieee.{lt};
-ghost use Rattle.views.specs.View.{entry};
+ghost use Rattle.views.specs.View.{entry, overwrite};
 ghost use Rattle.views.specs.Search.{firstFalse};
 ghost use Rattle.real.specs.Sums.{running};
 ghost use Rattle.cubic.specs.Sample.{chord};
@@ -26,19 +28,34 @@ pub fn curve_length(c: [P; 4]) -> f64
     sum
 }
 
-// The parameter at which the curve's chords add up to s: the table of 129 sums is searched for the first not below s.
+// The parameter at which the curve's chords add up to s: the table of sums is searched for the first not below s.
 pub fn param_at(c: [P; 4], s: f64) -> f64
     ensures { λ r. ⌜ r ≡ paramAt (chord c 128) 128 s (chordAt (chord c 128) 128 s) ⌝ }
 {
     let mut table = [0.0f64; 129];
+    sums_to(c, s, &mut table);
+    let k = chord_of(first_not_below(&table, s));
+    ((k - 1) as f64 + share(table[k - 1], table[k], s)) / CHORDS as f64
+}
+
+// The sums of the first 0, 1, .. chords, up to the end of the chord in which s falls. Later sums are not needed: no sum is below
+// the one before it, so the search ends there at the latest, and `share` takes the sums at the ends of that chord.
+fn sums_to(c: [P; 4], s: f64, table: &mut [f64])
+    requires { ⌜ length (now table) ≡ 129 ⌝ }
+    ensures { λ _. ⌜ now (table .exit) ≡ overwrite (chordAt (chord c 128) 128 s + 1) (running (chord c 128)) (now (table .entry)) ⌝ }
+{
+    let mut len = 0.0;
+    table[0] = len;
     let mut p = cubic::step_at(c, CHORDS, 0);
     for k in 0..CHORDS {
         let q = cubic::step_at(c, CHORDS, k + 1);
-        table[k + 1] = table[k] + p.dist(q);
+        len = len + p.dist(q);
+        table[k + 1] = len;
+        if !(len < s) {
+            return;
+        }
         p = q;
     }
-    let k = chord_of(first_not_below(&table, s));
-    ((k - 1) as f64 + share(table[k - 1], table[k], s)) / CHORDS as f64
 }
 
 // The first entry that is not below s, or 129.

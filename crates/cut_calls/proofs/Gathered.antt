@@ -9,8 +9,6 @@ use lib.Dec.{leb, lit<}
 use lib.ListN.{length}
 use lib.Ieee.{Float}
 use Rattle.views.specs.View.{entry}
-use Rattle.views.proofs.Laws.{overwrite-cong}
-use Rattle.refusal.specs.Order.{Verdict, accepted, refused}
 use Rattle.path.specs.Flat.{anchorAt, numbers}
 use Rattle.path.specs.Shape.{start}
 use Rattle.corner.specs.declared.cut.CornerKind.{CornerKind}
@@ -23,7 +21,8 @@ use Rattle.cut.specs.Outline.{cutCorners}
 use Rattle.cut.proofs.Outlines.{assembled-same, place-cut}
 use Rattle.assembly.specs.Assembled.{placeRead, subpathOutline, outlineUpTo, outlineOf, outlineShapes}
 use Rattle.cut_calls.specs.PlainCut.{subAt, viewAt, cutUpTo, cutShape, Laid}
-use Rattle.cut_calls.specs.Calls.{wordsLeft, handedVerdict, handedAnswer, handedShapes, handedAnchors}
+use Rattle.cut_calls.specs.Made.{madeVerdict, madeAnswer, madeShapes, madeAnchors}
+use Rattle.cut_calls.proofs.Handed.{list-same}
 
 -- ---- twelve numbers and a flag are a place
 module _ (xs : List Float) (k : ℕ) (p : Place) (held : (q : ℕ) → q < 12 → entry xs (k * 12 + q) ≡ entry (placeNumbers p) q) where
@@ -45,12 +44,6 @@ module _ (xs : List Float) (k : ℕ) (p : Place) (held : (q : ℕ) → q < 12 �
 read-flag : (b : Bool) → leb 2147483648 (flagOf b) ≡ b
 read-flag true = refl
 read-flag false = refl
-
--- ---- the words left turn on the first m alone
-words-same : (v : Verdict) (m : ℕ) (f g : ℕ → ℕ) (ts : List ℕ) → ((s : ℕ) → s < m → f s ≡ g s) → wordsLeft v m f ts ≡ wordsLeft v m g ts
-unfolding wordsLeft
-words-same accepted m f g ts e = overwrite-cong m f g ts e
-words-same (refused n place) m f g ts e = refl
 
 module _ (shapes : List ℕ) (anchors radii : List Float) (kind : CornerKind) (numbers : List Float) (flags : List ℕ)
     (laid : Laid shapes (viewAt shapes anchors radii kind) numbers flags) where
@@ -90,15 +83,15 @@ module _ (shapes : List ℕ) (anchors radii : List Float) (kind : CornerKind) (n
 
   -- ---- so what is handed over is the plain cut's
   module _ (toShapes : List ℕ) (to : List Float) where
-    pub answer-laid : handedAnswer (length shapes) (outlineOf shapes (placeRead numbers flags)) toShapes to
-        ≡ handedAnswer (length shapes) (cutUpTo (viewAt shapes anchors radii kind) (length shapes)) toShapes to
+    pub answer-laid : madeAnswer (length shapes) (outlineOf shapes (placeRead numbers flags)) toShapes to
+        ≡ madeAnswer (length shapes) (cutUpTo (viewAt shapes anchors radii kind) (length shapes)) toShapes to
     answer-laid = rw outline-laid
 
-    pub anchors-laid : handedAnchors (length shapes) (outlineOf shapes (placeRead numbers flags)) toShapes to
-        ≡ handedAnchors (length shapes) (cutUpTo (viewAt shapes anchors radii kind) (length shapes)) toShapes to
+    pub anchors-laid : madeAnchors (length shapes) (outlineOf shapes (placeRead numbers flags)) toShapes to
+        ≡ madeAnchors (length shapes) (cutUpTo (viewAt shapes anchors radii kind) (length shapes)) toShapes to
     anchors-laid = rw outline-laid
 
-    pub shapes-laid : handedShapes (length shapes) (outlineOf shapes (placeRead numbers flags)) (outlineShapes shapes (placeRead numbers flags)) toShapes to
-        ≡ handedShapes (length shapes) (cutUpTo (viewAt shapes anchors radii kind) (length shapes)) (cutShape (viewAt shapes anchors radii kind)) toShapes to
-    unfolding handedShapes
-    shapes-laid = rw outline-laid (words-same (handedVerdict (length shapes) (cutUpTo view (length shapes)) toShapes to) (length shapes) _ _ toShapes word-laid)
+    pub shapes-laid : madeShapes (length shapes) (outlineOf shapes (placeRead numbers flags)) (outlineShapes shapes (placeRead numbers flags)) toShapes to
+        ≡ madeShapes (length shapes) (cutUpTo (viewAt shapes anchors radii kind) (length shapes)) (cutShape (viewAt shapes anchors radii kind)) toShapes to
+    unfolding madeShapes
+    shapes-laid = rw outline-laid (list-same (madeVerdict (length shapes) (cutUpTo view (length shapes)) toShapes to) (length shapes) _ _ toShapes word-laid)

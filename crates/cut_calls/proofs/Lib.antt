@@ -1,4 +1,5 @@
 pub mod Laying
+pub mod Handed
 pub mod Gathered
 pub mod Counts
 pub mod Outcomes

@@ -1,2 +1,4 @@
+pub mod CornerKinds
 pub mod PlainCut
+pub mod Made
 pub mod Calls

@@ -4,4 +4,5 @@ mod rounding;
 mod writing;
 
 pub use bytes::put;
+pub use writing::put_whole;
 pub use writing::write_num;

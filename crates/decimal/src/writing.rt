@@ -20,7 +20,7 @@ fn put_digit(out: &mut [u8], at: usize, d: u64) -> usize
 }
 
 // Puts n in decimal.
-fn put_whole(out: &mut [u8], at: usize, n: u64) -> usize
+pub fn put_whole(out: &mut [u8], at: usize, n: u64) -> usize
     requires { ⌜ at + length (wholeText n) < 2 ^ 64 ⌝ }
     ensures { λ r. ⌜ Put (now (out .entry)) at (wholeText n) (now (out .exit)) r ⌝ }
 {

@@ -9,10 +9,10 @@ use Rattle.cubic.specs.Cubic.{four}
 use Rattle.cubic_calls.specs.declared.answers.Number.{Number}
 use Rattle.cubic_calls.specs.declared.answers.Point.{Point}
 use Rattle.cubic_calls.specs.declared.answers.Filled.{Filled}
-use Rattle.cut_calls.specs.declared.calls.Outline.{Outline}
-use Rattle.cut_calls.specs.declared.calls.Outline.the-variants as outline
-use Rattle.svg.specs.declared.call.Answer.{Answer}
-use Rattle.svg.specs.declared.call.Answer.the-variants as text
+use Rattle.call.specs.declared.answers.Outline.{Outline}
+use Rattle.call.specs.declared.answers.Outline.the-variants as outline
+use Rattle.svg.specs.declared.calls.Answer.{Answer}
+use Rattle.svg.specs.declared.calls.Answer.the-variants as text
 use Rattle.cubic_calls.specs.declared.answers.Number.the-variants as number
 use Rattle.cubic_calls.specs.declared.answers.Point.the-variants as located
 use Rattle.cubic_calls.specs.declared.answers.Filled.the-variants as filled

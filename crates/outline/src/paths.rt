@@ -4,7 +4,7 @@ ghost use Rattle.cut_calls.specs.Calls.{cutAnswer, cutShapesLeft, cutAnchorsLef
 ghost use Rattle.svg.specs.Call.{toSvgDAnswer, toSvgDLeft, writeNumAnswer, writeNumLeft};
 ghost use Rattle.outline.specs.Answers.{textCode, textWords, outlineCode, outlineWords};
 use crate::tell;
-use cut_calls::Outline;
+use call::Outline;
 use svg::Answer;
 
 #[no_mangle]

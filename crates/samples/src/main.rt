@@ -1,8 +1,8 @@
 // Document 01's sample pieces, run: a line for each, with the bits of its numbers, or the refusal.
+use call::Outline;
 use cubic_calls::Filled;
 use cubic_calls::Number;
 use cubic_calls::Point;
-use cut_calls::Outline;
 use geom::P;
 use svg::Answer;
 

@@ -1,10 +1,10 @@
--- What `to_svg_d` answers and leaves by what its tests found, and that the text it leaves reads as the path's commands. Assumes nothing.
+-- What `to_svg_d` and `write_num` answer and leave by what their tests found, and that the text left reads as the path's commands. Assumes nothing.
 use mathlib.Core.Path.{_≡_, refl, sym, ap, _∙_}
 use mathlib.Core.Logic.{⊎-elim}
 use mathlib.Core.Bool.{Bool, true, false, true≢false}
 use mathlib.Core.List.{List, _++_}
 use Prim.Native.Nat.{ℕ, _+_, _*_, _≤_, _<_}
-use native.Mathlib.Nat.{add-zero}
+use native.Mathlib.Nat.{add-zero, zero-add}
 use native.Mathlib.Omega.{arith}
 use lib.ListN.{length, take, drop}
 use lib.Seq.{take-at}
@@ -16,18 +16,34 @@ use Rattle.views.proofs.Laws.{order}
 use Rattle.views.proofs.Searches.{all-false}
 use Rattle.real.specs.Limit.{inLimit}
 use Rattle.decimal.specs.Text.{floatText}
-use Rattle.path.specs.declared.shape.Sized.the-variants.{Anchors, Wrong}
-use Rattle.path.specs.declared.limit.Found.the-variants.{At, Nothing}
-use Rattle.path.specs.Shape.{total, sizedOf}
-use Rattle.path.specs.Limit.{anchorIn, firstBad}
+use Rattle.decimal.specs.Put.{Put}
+use Rattle.decimal.proofs.Puts.{roomy}
+use Rattle.path.specs.Limit.{anchorIn}
 use Rattle.path.specs.Flat.{anchorAt}
-use Rattle.path.proofs.Limits.{none-is}
-use Rattle.refusal.specs.Order.{Test, passes, fails, holds, judge, firstFailing, Verdict, accepted, refused, verdict}
-use Rattle.svg.specs.declared.call.Answer.the-variants.{Refused, Accepted}
+use Rattle.path.proofs.Limits.{GoodBelow}
+use Rattle.refusal.specs.Order.{Test, passes, fails, holds, judge, Verdict, accepted, refused}
+use Rattle.refusal.proofs.Verdicts.{holds-true, holds-false, in-order, by-arguments}
+use Rattle.call.specs.declared.opening.Opened.the-variants as opened
+use Rattle.call.specs.Tests.{pathFits, pathLimit, openedPath}
+use Rattle.call.proofs.Openings.{PathOpens, path-refused}
+use Rattle.svg.specs.declared.calls.Answer.the-variants.{Refused, Accepted}
 use Rattle.svg.specs.ReadsAs.{ReadsAs}
 use Rattle.svg.specs.Path.{commandsOf, textOf}
 use Rattle.svg.specs.Pieces.{Placed}
-use Rattle.svg.specs.Call.{sizeTest, limitTest, tests, toSvgDVerdict, answer, left, toSvgDAnswer, toSvgDLeft, numberTests, writeNumAnswer, writeNumLeft}
+use Rattle.svg.specs.Call.{
+  textRoom,
+  answer,
+  left,
+  toSvgDVerdict,
+  toSvgDAnswer,
+  toSvgDLeft,
+  writeNumVerdict,
+  writeNumAnswer,
+  writeNumLeft,
+  roomVerdict,
+  handedAnswer,
+  handedLeft,
+}
 use Rattle.svg.proofs.Paths.{text-reads}
 
 -- ---- what the two tests of the path give to `put_path`
@@ -38,10 +54,10 @@ all-says p n h j l = go (p j) refl
     go true e = refl
     go false e = absurd (true≢false (sym h ∙ all-false p n j l e))
 
-pub placed : (anchors : List Float) (n : ℕ) → n ≤ 1024 → n * 6 ≤ length anchors → firstBad (anchorIn anchors) n ≡ Nothing → (j : ℕ) → j < n → Placed anchors j
+pub placed : (anchors : List Float) (n : ℕ) → n ≤ 1024 → n * 6 ≤ length anchors → GoodBelow (anchorIn anchors) n → (j : ℕ) → j < n → Placed anchors j
 unfolding anchorIn
-placed anchors n few long e j l =
-    let at = all-says (λ i. inLimit (entry anchors (j * 6 + i))) 6 (none-is (anchorIn anchors) n .0 e j l) in
+placed anchors n few long good j l =
+    let at = all-says (λ i. inLimit (entry anchors (j * 6 + i))) 6 (good j l) in
     record {
       few = omega arith;
       long = omega arith;
@@ -52,42 +68,47 @@ placed anchors n few long e j l =
       };
     }
 
+-- ---- a text by the room that there is
+module _ (text out : List ℕ) where
+  pub without-room : length out < length text → (Refused 8 0 ≡ handedAnswer text out) × (out ≡ handedLeft text out)
+  unfolding handedAnswer handedLeft roomVerdict textRoom judge holds answer left
+  without-room h = let l = lt-leb (length text) (length out) h in (rw l, rw l)
+
+  with-room : length text ≤ length out → (Accepted (length text) ≡ handedAnswer text out) × (text ++ drop (length text) out ≡ handedLeft text out)
+  unfolding handedAnswer handedLeft roomVerdict textRoom judge holds answer left
+  with-room h = let l = le-leb (length text) (length out) h in (rw l, rw l)
+
+  pub put-in-room : {m : List ℕ} {to : ℕ} → Put out 0 text m to → length text ≤ length out → (Accepted to ≡ handedAnswer text out) × (m ≡ handedLeft text out)
+  put-in-room {m} {to} p h =
+      let a = with-room h in
+      (ap Accepted (p .end ∙ zero-add (length text)) ∙ a .0, rw zero-add at (roomy out m 0 to text p (rw zero-add h)) ∙ a .1)
+
+-- ---- `to_svg_d`
 module _ (shapes : List ℕ) (anchors : List Float) (out : List ℕ) where
   abbrev text : List ℕ
   text = textOf shapes (anchorAt anchors)
 
-  -- ---- the verdict, by what the tests found
-  pub wrong-size : sizedOf shapes 1024 ≡ Wrong → toSvgDVerdict shapes anchors out ≡ refused 7 0
-  unfolding toSvgDVerdict verdict firstFailing judge tests sizeTest
-  wrong-size s = rw s
-
-  module _ (n : ℕ) (s : sizedOf shapes 1024 ≡ Anchors n) where
-    pub too-short : length anchors < n * 6 → toSvgDVerdict shapes anchors out ≡ refused 7 0
-    unfolding toSvgDVerdict verdict firstFailing judge tests sizeTest holds
-    too-short l = rw (s, lt-leb (n * 6) (length anchors) l)
-
-    module _ (l : n * 6 ≤ length anchors) where
-      pub out-of-limit : (k : ℕ) → firstBad (anchorIn anchors) (total shapes) ≡ At k → toSvgDVerdict shapes anchors out ≡ refused 5 k
-      unfolding toSvgDVerdict verdict firstFailing judge tests sizeTest limitTest holds
-      out-of-limit k f = rw (s, le-leb (n * 6) (length anchors) l, f)
-
-      module _ (f : firstBad (anchorIn anchors) (total shapes) ≡ Nothing) where
-        pub no-room : length out < length text → toSvgDVerdict shapes anchors out ≡ refused 8 0
-        unfolding toSvgDVerdict verdict firstFailing judge tests sizeTest limitTest holds
-        no-room r = rw (s, le-leb (n * 6) (length anchors) l, f, lt-leb (length text) (length out) r)
-
-        pub room : length text ≤ length out → toSvgDVerdict shapes anchors out ≡ accepted
-        unfolding toSvgDVerdict verdict firstFailing judge tests sizeTest limitTest holds
-        room r = rw (s, le-leb (n * 6) (length anchors) l, f, le-leb (length text) (length out) r)
-
-  -- ---- the answer and the list, by the verdict
-  pub refuses : {n place : ℕ} → toSvgDVerdict shapes anchors out ≡ refused n place → (Refused n place ≡ toSvgDAnswer shapes anchors out) × (out ≡ toSvgDLeft shapes anchors out)
+  -- the answer and the list, by the verdict
+  refuses : {n place : ℕ} → toSvgDVerdict shapes anchors out ≡ refused n place → (Refused n place ≡ toSvgDAnswer shapes anchors out) × (out ≡ toSvgDLeft shapes anchors out)
   unfolding toSvgDAnswer toSvgDLeft answer left
   refuses e = (rw e, rw e)
 
-  pub accepts : toSvgDVerdict shapes anchors out ≡ accepted → (Accepted (length text) ≡ toSvgDAnswer shapes anchors out) × (text ++ drop (length text) out ≡ toSvgDLeft shapes anchors out)
+  accepts : toSvgDVerdict shapes anchors out ≡ accepted → (Accepted (length text) ≡ toSvgDAnswer shapes anchors out) × (text ++ drop (length text) out ≡ toSvgDLeft shapes anchors out)
   unfolding toSvgDAnswer toSvgDLeft answer left
   accepts e = (rw e, rw e)
+
+  -- by what the opening of the path found
+  pub not-opened : (n place : ℕ) → openedPath 1024 shapes anchors ≡ opened.Refused n place → (Refused n place ≡ toSvgDAnswer shapes anchors out) × (out ≡ toSvgDLeft shapes anchors out)
+  unfolding toSvgDVerdict
+  not-opened n place e = refuses (in-order _ _ _ _ _ _ ∙ path-refused 1024 shapes anchors n place e true _)
+
+  opened-verdict : {n : ℕ} → PathOpens 1024 shapes anchors n → toSvgDVerdict shapes anchors out ≡ roomVerdict text out
+  unfolding toSvgDVerdict roomVerdict judge holds
+  opened-verdict o = in-order _ _ _ _ _ _ ∙ rw (o .lists-pass, o .places-good true)
+
+  pub as-handed : {n : ℕ} → PathOpens 1024 shapes anchors n → (handedAnswer text out ≡ toSvgDAnswer shapes anchors out) × (handedLeft text out ≡ toSvgDLeft shapes anchors out)
+  unfolding toSvgDAnswer toSvgDLeft handedAnswer handedLeft
+  as-handed o = let v = opened-verdict o in (rw v, rw v)
 
   -- ---- what an accepted call leaves at the start of the list is path data, of the path's commands
   never : (a b : Test) → judge a 7 (judge b 5 (refused 8 0)) ≡ accepted → ⊥
@@ -97,8 +118,9 @@ module _ (shapes : List ℕ) (anchors : List Float) (out : List ℕ) where
   never (fails k) b e = let z : _≡_ {A = ℕ} 0 1 = cc in omega arith
 
   no-accept : length out < length text → toSvgDVerdict shapes anchors out ≡ accepted → ⊥
-  unfolding toSvgDVerdict verdict firstFailing tests judge holds
-  no-accept r e = never (sizeTest (sizedOf shapes 1024) anchors) (limitTest (firstBad (anchorIn anchors) (total shapes))) (rw (lt-leb (length text) (length out) r) at e)
+  unfolding toSvgDVerdict textRoom judge holds
+  no-accept r e =
+      never (holds (pathFits 1024 shapes anchors) 0) (pathLimit shapes anchors true) (rw (lt-leb (length text) (length out) r) at (sym (in-order _ _ _ _ _ _) ∙ e))
 
   fits : toSvgDVerdict shapes anchors out ≡ accepted → length text ≤ length out
   fits e = ⊎-elim (λ h. h) (λ r. absurd (no-accept r e)) (order (length text) (length out))
@@ -122,17 +144,16 @@ module _ (shapes : List ℕ) (anchors : List Float) (out : List ℕ) where
           let t : take n (toSvgDLeft shapes anchors out) ≡ text = ap (take n) (sym (a .1)) ∙ take-at text (drop (length text) out) n (sym q) in
           (q, omega arith, rw t (text-reads shapes (anchorAt anchors)))
 
--- ---- `write_num`: one law for each return
+-- ---- `write_num`
 module _ (x : Float) (out : List ℕ) where
   pub number-outside : inLimit x ≡ false → (Refused 5 0 ≡ writeNumAnswer x out) × (out ≡ writeNumLeft x out)
-  unfolding writeNumAnswer writeNumLeft verdict firstFailing judge numberTests holds answer left
-  number-outside e = (rw e, rw e)
+  unfolding writeNumAnswer writeNumLeft writeNumVerdict answer left
+  number-outside e = let v = by-arguments passes _ passes passes passes (textRoom (floatText x) out) refl 0 (holds-false 0 e) in (rw v, rw v)
 
-  pub number-no-room : inLimit x ≡ true → length out < length (floatText x) → (Refused 8 0 ≡ writeNumAnswer x out) × (out ≡ writeNumLeft x out)
-  unfolding writeNumAnswer writeNumLeft verdict firstFailing judge numberTests holds answer left
-  number-no-room e r = let l = lt-leb (length (floatText x)) (length out) r in (rw (e, l), rw (e, l))
+  number-verdict : inLimit x ≡ true → writeNumVerdict x out ≡ roomVerdict (floatText x) out
+  unfolding writeNumVerdict roomVerdict judge
+  number-verdict e = in-order _ _ _ _ _ _ ∙ rw (holds-true 0 e)
 
-  pub number-put : inLimit x ≡ true → length (floatText x) ≤ length out
-      → (Accepted (length (floatText x)) ≡ writeNumAnswer x out) × (floatText x ++ drop (length (floatText x)) out ≡ writeNumLeft x out)
-  unfolding writeNumAnswer writeNumLeft verdict firstFailing judge numberTests holds answer left
-  number-put e r = let l = le-leb (length (floatText x)) (length out) r in (rw (e, l), rw (e, l))
+  pub number-handed : inLimit x ≡ true → (handedAnswer (floatText x) out ≡ writeNumAnswer x out) × (handedLeft (floatText x) out ≡ writeNumLeft x out)
+  unfolding writeNumAnswer writeNumLeft handedAnswer handedLeft
+  number-handed e = let v = number-verdict e in (rw v, rw v)

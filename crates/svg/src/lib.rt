@@ -1,8 +1,8 @@
 // SVG path data of an outline, written into a lent buffer.
-mod call;
+mod calls;
 mod commands;
 mod outline;
 
-pub use call::Answer;
-pub use call::to_svg_d;
-pub use call::write_num;
+pub use calls::Answer;
+pub use calls::to_svg_d;
+pub use calls::write_num;

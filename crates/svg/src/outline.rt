@@ -1,6 +1,7 @@
 // The text of segments, subpaths and paths, put into a lent list at `at`.
 ghost use mathlib.Core.List.{[], _∷_};
 ghost use Prim.Native.Nat.{ℕ, _+_, _*_, _^_, _≤_, _<_};
+ghost use lib.ListN.{length};
 ghost use Rattle.decimal.specs.Put.{Put};
 ghost use Rattle.path.specs.Shape.{total};
 ghost use Rattle.path.specs.Flat.{anchorAt};
@@ -78,9 +79,9 @@ fn put_subpath(
     at: usize,
 ) -> usize
     requires { ⌜ ((j : ℕ) → k ≤ j → j < k + n → Placed (now anchors) j) ⌝ }
-    requires { ⌜ (k + n ≤ 1024) × (at + 100 * n < 2 ^ 64) ⌝ }
+    requires { ⌜ (k + n ≤ 1024) × (at + 73 * n + 27 < 2 ^ 64) ⌝ }
     ensures text { λ r. ⌜ Put (now (out .entry)) at (glue at (subpath (anchorAt (now (anchors .entry))) k n closed)) (now (out .exit)) r ⌝ }
-    ensures room { λ r. ⌜ r ≤ at + 100 * n ⌝ }
+    ensures room { λ r. ⌜ r ≤ at + 73 * n + 27 ⌝ }
 {
     if n == 0 {
         return at;
@@ -97,9 +98,9 @@ fn put_subpath(
 // Puts the text of a path.
 pub fn put_path(shapes: &[u32], anchors: &[f64], out: &mut [u8]) -> usize
     requires { ⌜ ((j : ℕ) → j < total (now shapes) → Placed (now anchors) j) ⌝ }
-    requires { ⌜ total (now shapes) ≤ 1024 ⌝ }
+    requires { ⌜ (length (now shapes) ≤ 32) × (total (now shapes) ≤ 1024) ⌝ }
     ensures text { λ r. ⌜ Put (now (out .entry)) 0 (textOf (now (shapes .entry)) (anchorAt (now (anchors .entry)))) (now (out .exit)) r ⌝ }
-    ensures room { λ r. ⌜ r ≤ 100 * total (now (shapes .entry)) ⌝ }
+    ensures room { λ r. ⌜ r ≤ 73 * total (now (shapes .entry)) + 27 * length (now (shapes .entry)) ⌝ }
 {
     let mut at: usize = 0;
     let mut k: usize = 0;

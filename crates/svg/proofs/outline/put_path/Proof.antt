@@ -19,7 +19,7 @@ use Rattle.svg.proofs.outline.put_path.Tie as tie
 
 abbrev Inv-loop : tie.InvT-loop
 Inv-loop shapes anchors out₀ at₀ k₀ s₀ s-end out at k s =
-    (s ≤ length shapes) × (s-end ≡ length shapes) × (k ≡ start shapes s) × (Put out₀ 0 (glue 0 (commandsFrom (anchorAt anchors) 0 (take s shapes))) out at) × (at ≤ 100 * k)
+    (s ≤ length shapes) × (s-end ≡ length shapes) × (k ≡ start shapes s) × (Put out₀ 0 (glue 0 (commandsFrom (anchorAt anchors) 0 (take s shapes))) out at) × (at ≤ 73 * k + 27 * s)
 
 abbrev μ-loop : tie.MeasureT-loop
 μ-loop shapes anchors out₀ at₀ k₀ s₀ s-end out at k s = length shapes - s

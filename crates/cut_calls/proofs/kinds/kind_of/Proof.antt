@@ -1,10 +1,10 @@
--- `cut_calls::calls::kind_of` meets its contract. Assumes nothing.
+-- `cut_calls::kinds::kind_of` meets its contract. Assumes nothing.
 use mathlib.Core.Path.{_≡_}
 use Prim.Native.Nat.{suc, _-_}
 use native.Mathlib.Omega.{arith}
-use Rattle.cut_calls.specs.Calls.{kindOf}
-use Rattle.cut_calls.proofs.calls.kind_of.Statement.{statement}
-use Rattle.cut_calls.proofs.calls.kind_of.Tie as tie
+use Rattle.cut_calls.specs.CornerKinds.{kindOf}
+use Rattle.cut_calls.proofs.kinds.kind_of.Statement.{statement}
+use Rattle.cut_calls.proofs.kinds.kind_of.Tie as tie
 
 returns : tie.Need-returns
 unfolding kindOf
