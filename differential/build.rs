@@ -18,8 +18,9 @@ fn main() {
         let text = file.edited(text);
         write(&out, file, &text);
         if file.name == edits::bezier::FILE.name {
-            let counted = edits::branches::FILE;
-            write(&out, &counted, &counted.edited(text));
+            for again in [edits::branches::FILE, edits::placed::FILE] {
+                write(&out, &again, &again.edited(text.clone()));
+            }
         }
     }
     link(&here);

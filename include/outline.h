@@ -71,6 +71,24 @@ uint32_t outline_cut_corners(const uint32_t *shapes, size_t shapes_len, const do
                              uint32_t *to_shapes, size_t to_shapes_len, double *to, size_t to_len,
                              outline_answer *answer);
 
+/* A cut cache keeps a drawing's cut place by place, beside the drawing: twelve numbers a place (uncut: the anchor as the cut
+ * leaves it, then six zeros; cut: the start, then the end) and a flag (top bit 1 where cut, other bits 0). */
+
+/* Builds the cache of a drawing of at most 32 subpaths and 512 anchors. numbers needs twelve entries a place, flags one.
+ * subpaths and count say how many subpaths and places it has. Refuses 7 (also for numbers and flags), 5, 9 at the place. */
+uint32_t outline_build(const uint32_t *shapes, size_t shapes_len, const double *anchors, size_t anchors_len,
+                       const double *radii, size_t radii_len, uint32_t kind,
+                       double *numbers, size_t numbers_len, uint32_t *flags, size_t flags_len,
+                       outline_answer *answer);
+
+/* Assembles the cut path from a cache, in the order of outline_cut_corners. Any bits may stand in the cache: only the top bit
+ * of a flag is read. subpaths and count say how many words and anchors were written. Refuses 7, 9 at the index in the
+ * assembled path, 8. */
+uint32_t outline_assemble(const uint32_t *shapes, size_t shapes_len, const double *numbers, size_t numbers_len,
+                          const uint32_t *flags, size_t flags_len,
+                          uint32_t *to_shapes, size_t to_shapes_len, double *to, size_t to_len,
+                          outline_answer *answer);
+
 /* x to three decimals, without trailing zeros, never "-0". count is the bytes written, at most 11. Refuses 5, 8. */
 uint32_t outline_write_num(double x, uint8_t *out, size_t out_len, outline_answer *answer);
 

@@ -4,6 +4,7 @@
 pub mod bezier;
 pub mod branches;
 pub mod geom;
+pub mod placed;
 
 /// A file of the original.
 pub struct File {

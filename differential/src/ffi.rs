@@ -55,6 +55,35 @@ extern "C" {
         answer: *mut Answer,
     ) -> u32;
 
+    fn outline_build(
+        shapes: *const u32,
+        shapes_len: usize,
+        anchors: *const f64,
+        anchors_len: usize,
+        radii: *const f64,
+        radii_len: usize,
+        kind: u32,
+        numbers: *mut f64,
+        numbers_len: usize,
+        flags: *mut u32,
+        flags_len: usize,
+        answer: *mut Answer,
+    ) -> u32;
+
+    fn outline_assemble(
+        shapes: *const u32,
+        shapes_len: usize,
+        numbers: *const f64,
+        numbers_len: usize,
+        flags: *const u32,
+        flags_len: usize,
+        to_shapes: *mut u32,
+        to_shapes_len: usize,
+        to: *mut f64,
+        to_len: usize,
+        answer: *mut Answer,
+    ) -> u32;
+
     fn outline_write_num(x: f64, out: *mut u8, out_len: usize, answer: *mut Answer) -> u32;
 
     fn outline_to_svg_d(
@@ -118,6 +147,58 @@ pub fn cut_corners(
             radii.as_ptr(),
             radii.len(),
             kind,
+            to_shapes.as_mut_ptr(),
+            to_shapes.len(),
+            to.as_mut_ptr(),
+            to.len(),
+            answer,
+        )
+    }
+}
+
+pub fn build(
+    shapes: &[u32],
+    anchors: &[f64],
+    radii: &[f64],
+    kind: u32,
+    numbers: &mut [f64],
+    flags: &mut [u32],
+    answer: &mut Answer,
+) -> u32 {
+    unsafe {
+        outline_build(
+            shapes.as_ptr(),
+            shapes.len(),
+            anchors.as_ptr(),
+            anchors.len(),
+            radii.as_ptr(),
+            radii.len(),
+            kind,
+            numbers.as_mut_ptr(),
+            numbers.len(),
+            flags.as_mut_ptr(),
+            flags.len(),
+            answer,
+        )
+    }
+}
+
+pub fn assemble(
+    shapes: &[u32],
+    numbers: &[f64],
+    flags: &[u32],
+    to_shapes: &mut [u32],
+    to: &mut [f64],
+    answer: &mut Answer,
+) -> u32 {
+    unsafe {
+        outline_assemble(
+            shapes.as_ptr(),
+            shapes.len(),
+            numbers.as_ptr(),
+            numbers.len(),
+            flags.as_ptr(),
+            flags.len(),
             to_shapes.as_mut_ptr(),
             to_shapes.len(),
             to.as_mut_ptr(),

@@ -2,12 +2,16 @@
 //! the latter, bit by bit. `cargo run --release -- run` from this folder; `bench` measures speed.
 
 // Without a group of calls, what only they need stands unused.
-#![cfg_attr(not(all(feature = "cut", feature = "text")), allow(dead_code))]
+#![cfg_attr(not(all(feature = "cache", feature = "text")), allow(dead_code))]
 
 mod anchors;
 mod angles;
 mod bench;
 mod branches;
+#[cfg(feature = "cache")]
+mod cache;
+#[cfg(feature = "cache")]
+mod caches;
 mod call;
 mod case;
 mod compare;
@@ -114,6 +118,11 @@ fn run(seed: u64, cases: u64) -> ExitCode {
     }
     #[cfg(feature = "cut")]
     tell(cuts::run(drawings(cases), &mut random));
+    #[cfg(feature = "cache")]
+    {
+        tell(cache::build(drawings(cases), &mut random));
+        tell(cache::assemble(drawings(cases), &mut random));
+    }
     #[cfg(feature = "text")]
     {
         tell(text::write_num(NUMERALS * cases, &mut random));

@@ -13,6 +13,12 @@ pub mod counted {
     include!(concat!(env!("OUT_DIR"), "/counted.rs"));
 }
 
+/// Document 000 again, telling at which anchors it cut; its path is compared with the first one's.
+#[allow(dead_code, clippy::all)]
+pub mod placed {
+    include!(concat!(env!("OUT_DIR"), "/placed.rs"));
+}
+
 /// Document 001.
 #[allow(dead_code, clippy::all)]
 pub mod geom {

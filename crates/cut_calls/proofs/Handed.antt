@@ -1,7 +1,7 @@
 -- Where scratch lists hold the outline of places, what is handed over from them is what an outline that is made comes to. Assumes nothing.
-use mathlib.Core.Path.{_≡_, refl, ap, ap₂, _∙_}
+use mathlib.Core.Path.{_≡_, refl, ap, _∙_}
 use mathlib.Core.List.{List}
-use Prim.Native.Nat.{ℕ, _+_, _*_, _≤_, _<_}
+use Prim.Native.Nat.{ℕ, _*_, _≤_, _<_}
 use native.Mathlib.Nat.{le-refl}
 use native.Mathlib.Omega.{arith}
 use lib.ListN.{length, getD, take}
@@ -9,14 +9,13 @@ use lib.Ieee.{Float}
 use Rattle.views.specs.View.{overwrite}
 use Rattle.views.proofs.Laws.{at-tabulate, overwrite-cong}
 use Rattle.refusal.specs.Order.{Verdict, accepted, refused}
-use Rattle.path.specs.declared.anchor.Anchor.{Anchor}
 use Rattle.path.specs.Shape.{total}
 use Rattle.path.specs.Flat.{listed}
 use Rattle.path.proofs.Shapes.{total-end}
 use Rattle.cut.specs.declared.places.Place.{Place}
 use Rattle.assembly.specs.Assembled.{outlineOf, outlineShapes, outlineWords}
 use Rattle.assembly.proofs.Outlined.{outline-most, outline-total, words-length, words-written}
-use Rattle.call.specs.Answers.{outlineAnswer, listLeft, handedVerdict, handedAnswer, handedShapes, handedAnchors}
+use Rattle.call.specs.Answers.{listLeft, handedVerdict, handedAnswer, handedShapes, handedAnchors}
 use Rattle.call.proofs.Handings.{listed-verdict, listed-anchors}
 use Rattle.cut_calls.specs.Made.{madeVerdict, madeAnswer, madeShapes, madeAnchors}
 

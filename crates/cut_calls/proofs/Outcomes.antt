@@ -1,10 +1,10 @@
 -- What the tests of `cut_corners` come to, and what is then answered and left. Assumes nothing.
-use mathlib.Core.Path.{_≡_, refl, _∙_}
+use mathlib.Core.Path.{_≡_, _∙_}
 use mathlib.Core.List.{List}
 use Prim.Native.Nat.{ℕ}
 use lib.ListN.{length}
 use lib.Ieee.{Float}
-use Rattle.refusal.specs.Order.{holds, judge, Verdict, refused}
+use Rattle.refusal.specs.Order.{holds, judge, refused}
 use Rattle.refusal.proofs.Verdicts.{in-order, by-arguments, holds-false}
 use Rattle.path.specs.Shape.{total}
 use Rattle.corner.specs.declared.cut.CornerKind.{CornerKind}
@@ -39,7 +39,7 @@ module _ (shapes : List ℕ) (anchors radii : List Float) (kind : ℕ) (toShapes
 
   -- ---- past the first tests, with a known kind: what is left is the outline's
   module _ (n : ℕ) (o : DrawingOpens shapes anchors radii n) (k : CornerKind) (known : kindOf kind ≡ Known k) where
-    as-made : cutVerdict shapes anchors radii kind toShapes to ≡ madeVerdict (length shapes) (cutUpTo (viewAt shapes anchors radii k) (length shapes)) toShapes to
+    pub as-made : cutVerdict shapes anchors radii kind toShapes to ≡ madeVerdict (length shapes) (cutUpTo (viewAt shapes anchors radii k) (length shapes)) toShapes to
     unfolding cutVerdict madeVerdict judge holds isKnown cutOutline
     as-made = in-order _ _ _ _ _ _ ∙ rw (o .lists-pass, o .places-good, known)
 

@@ -11,6 +11,7 @@ use cubic_calls::Number;
 use cubic_calls::Point;
 use geom::P;
 
+mod caches;
 mod paths;
 
 // The control points of a cubic, from eight numbers, x before y.

@@ -27,7 +27,7 @@ pub extern "C" fn outline_cut_corners(
 }
 
 // What a call that makes an outline answered.
-fn outline_told(a: Outline, answer: &mut [u64; 4]) -> u32
+pub fn outline_told(a: Outline, answer: &mut [u64; 4]) -> u32
     ensures code { λ r. ⌜ r ≡ outlineCode a ⌝ }
     ensures answer { λ _. ⌜ now (answer .exit) ≡ outlineWords a ⌝ }
 {
