@@ -31,7 +31,7 @@ enum outline_refusal {
 /* What a call answers beside its number. Every call writes all four words, 0 where one says nothing. */
 typedef struct outline_answer {
     uint64_t place;     /* of a refusal */
-    uint64_t count;     /* points, anchors or bytes of the result */
+    uint64_t count;     /* points, anchors, corners or bytes of the result */
     uint64_t subpaths;  /* subpaths of the result */
     uint64_t recut;     /* places that an edit recut */
 } outline_answer;
@@ -88,6 +88,13 @@ uint32_t outline_assemble(const uint32_t *shapes, size_t shapes_len, const doubl
                           const uint32_t *flags, size_t flags_len,
                           uint32_t *to_shapes, size_t to_shapes_len, double *to, size_t to_len,
                           outline_answer *answer);
+
+/* The corners of a path that can be cut, in order, at most 512 anchors in: to places each one's index through the path, to
+ * numbers nine for each: the point, the unit directions u and v in which its sides leave it, towards the anchor before and
+ * the one after, x before y, their lengths, and the largest radius of a cut. count is the corners written. Refuses 7, 5, 9, 8. */
+uint32_t outline_path_corners(const uint32_t *shapes, size_t shapes_len, const double *anchors, size_t anchors_len,
+                              uint32_t *places, size_t places_len, double *numbers, size_t numbers_len,
+                              outline_answer *answer);
 
 /* x to three decimals, without trailing zeros, never "-0". count is the bytes written, at most 11. Refuses 5, 8. */
 uint32_t outline_write_num(double x, uint8_t *out, size_t out_len, outline_answer *answer);

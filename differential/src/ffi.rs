@@ -95,6 +95,18 @@ extern "C" {
         out_len: usize,
         answer: *mut Answer,
     ) -> u32;
+
+    fn outline_path_corners(
+        shapes: *const u32,
+        shapes_len: usize,
+        anchors: *const f64,
+        anchors_len: usize,
+        places: *mut u32,
+        places_len: usize,
+        numbers: *mut f64,
+        numbers_len: usize,
+        answer: *mut Answer,
+    ) -> u32;
 }
 
 pub fn root(x: f64) -> f64 {
@@ -224,6 +236,28 @@ pub fn to_svg_d(shapes: &[u32], anchors: &[f64], out: &mut [u8], answer: &mut An
             anchors_len,
             out,
             out_len,
+            answer,
+        )
+    }
+}
+
+pub fn path_corners(
+    shapes: &[u32],
+    anchors: &[f64],
+    places: &mut [u32],
+    numbers: &mut [f64],
+    answer: &mut Answer,
+) -> u32 {
+    unsafe {
+        outline_path_corners(
+            shapes.as_ptr(),
+            shapes.len(),
+            anchors.as_ptr(),
+            anchors.len(),
+            places.as_mut_ptr(),
+            places.len(),
+            numbers.as_mut_ptr(),
+            numbers.len(),
             answer,
         )
     }

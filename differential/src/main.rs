@@ -1,23 +1,18 @@
 //! The differential test: the library against the original, with document 01's stand-ins put into
 //! the latter, bit by bit. `cargo run --release -- run` from this folder; `bench` measures speed.
 
-// Without a group of calls, what only they need stands unused.
-#![cfg_attr(not(all(feature = "cache", feature = "text")), allow(dead_code))]
-
 mod anchors;
 mod angles;
 mod bench;
 mod branches;
-#[cfg(feature = "cache")]
 mod cache;
-#[cfg(feature = "cache")]
 mod caches;
 mod call;
 mod case;
 mod compare;
+mod corners;
 mod cubics;
 mod curves;
-#[cfg(feature = "cut")]
 mod cuts;
 mod damage;
 mod drawings;
@@ -39,7 +34,6 @@ mod samples;
 mod selftest;
 mod sizes;
 mod stand_ins;
-#[cfg(feature = "text")]
 mod text;
 mod values;
 mod writings;
@@ -62,6 +56,11 @@ const NUMERALS: u64 = 10;
 /// Drawings and paths, each of which has up to thousands of numbers.
 fn drawings(cases: u64) -> u64 {
     (cases / 25).max(20_000)
+}
+
+/// Paths whose corners are listed.
+fn corner_paths(cases: u64) -> u64 {
+    (cases / 20).max(50_000)
 }
 
 fn main() -> ExitCode {
@@ -116,18 +115,12 @@ fn run(seed: u64, cases: u64) -> ExitCode {
     for call in &cubics::CALLS {
         tell(call.run(cases, &mut random));
     }
-    #[cfg(feature = "cut")]
     tell(cuts::run(drawings(cases), &mut random));
-    #[cfg(feature = "cache")]
-    {
-        tell(cache::build(drawings(cases), &mut random));
-        tell(cache::assemble(drawings(cases), &mut random));
-    }
-    #[cfg(feature = "text")]
-    {
-        tell(text::write_num(NUMERALS * cases, &mut random));
-        tell(text::to_svg_d(drawings(cases), &mut random));
-    }
+    tell(cache::build(drawings(cases), &mut random));
+    tell(cache::assemble(drawings(cases), &mut random));
+    tell(corners::run(corner_paths(cases), &mut random));
+    tell(text::write_num(NUMERALS * cases, &mut random));
+    tell(text::to_svg_d(drawings(cases), &mut random));
     let seconds = start.elapsed().as_secs_f64();
     let verdict = if passed { "passed" } else { "FAILED" };
     println!("{verdict}: seed {seed}, {cases} cases of each call, {seconds:.1} seconds");

@@ -12,6 +12,7 @@ use crate::lents::Lents;
 use crate::numerals::{ties, NUMERALS, SAMPLES};
 use crate::original::bezier;
 use crate::parameters::ROOM;
+use crate::paths::{Path, CLOSED};
 use crate::random::Random;
 use crate::refusal::{in_limit, ACCEPTED, ARGUMENTS, LISTS, MOST_CUT_ANCHORS, OUTPUT};
 use crate::report::Tally;
@@ -82,6 +83,11 @@ fn compare_number(
     }
 }
 
+/// Buffers as long as any text of so many subpaths and anchors, or a byte less: into the former the
+/// library writes at once, for the latter it first counts.
+const ANY_TEXT: [Family; 2] = [("room", "any text"), ("room", "a byte less")];
+const LONGEST: Family = ("path", "the longest text");
+
 pub fn to_svg_d(cases: u64, random: &mut Random) -> Tally {
     let outcomes = vec![
         ACCEPTS,
@@ -91,8 +97,14 @@ pub fn to_svg_d(cases: u64, random: &mut Random) -> Tally {
         REFUSES_5_SHORT,
         REFUSES_8,
     ];
-    let families = [outcomes, ROOM.families(), writings::families()];
+    let rooms = [ROOM.families(), ANY_TEXT.to_vec()].concat();
+    let families = [outcomes, rooms, vec![LONGEST], writings::families()];
     let mut tally = Tally::new("to_svg_d", families.concat());
+    for subpaths in 1..=4 {
+        for anchors in 2..=17 {
+            compare_path(longest(subpaths, anchors), &mut tally, random);
+        }
+    }
     for _ in 0..cases {
         compare_path(Writing::draw(random), &mut tally, random);
     }
@@ -101,9 +113,7 @@ pub fn to_svg_d(cases: u64, random: &mut Random) -> Tally {
 
 fn compare_path(mut writing: Writing, tally: &mut Tally, random: &mut Random) {
     let text = text(&writing);
-    // What stands in for a text that there is not.
-    let need = text.as_ref().map_or(64, String::len);
-    let room = Room::draw(need, random, &mut writing.families);
+    let room = room(&mut writing, &text, random);
     let expected = match &text {
         Ok(text) => written(text, &room),
         Err((place, refusal)) => Expected::refused_at(*place, *refusal),
@@ -133,8 +143,43 @@ fn compare_path(mut writing: Writing, tally: &mut Tally, random: &mut Random) {
     }
 }
 
+fn room(writing: &mut Writing, text: &Text, random: &mut Random) -> Room {
+    // What stands in for a text that there is not.
+    let need = text.as_ref().map_or(64, String::len);
+    if text.is_err() || !random.one_in(4) {
+        return Room::draw(need, random, &mut writing.families);
+    }
+    let less = random.below(2) as usize;
+    writing.families.push(ANY_TEXT[less]);
+    let lent = any_text(&writing.path).saturating_sub(less);
+    Room { need, lent }
+}
+
+/// Bytes that suffice: a curve has at most 73, with the blank before it, and a subpath 27 beside, for
+/// its M and its Z.
+fn any_text(path: &Path) -> usize {
+    73 * path.anchors() as usize + 27 * path.shapes.len()
+}
+
+/// Closed subpaths of curves, whose every number takes eleven bytes: only the first blank is missing.
+fn longest(subpaths: usize, anchors: usize) -> Writing {
+    let (p, handle) = (-131_071.999, -131_071.998);
+    let path = Path {
+        shapes: vec![anchors as u32 | CLOSED; subpaths],
+        numbers: [p, p, handle, handle, handle, handle].repeat(subpaths * anchors),
+    };
+    let text = bezier::to_svg_d(&path.original());
+    assert_eq!(text.len(), any_text(&path) - 1);
+    Writing {
+        families: vec![LONGEST],
+        path,
+    }
+}
+
 /// The original's text; or document 01's refusal, 7 or 5, with its place.
-fn text(writing: &Writing) -> Result<String, (usize, u32)> {
+type Text = Result<String, (usize, u32)>;
+
+fn text(writing: &Writing) -> Text {
     let path = &writing.path;
     if !path.is_readable(MOST_CUT_ANCHORS) {
         return Err((0, LISTS));

@@ -20,9 +20,27 @@ const DRAWN: Family = ("path", "drawn");
 const CUT: Family = ("path", "cut");
 
 pub fn families() -> Vec<Family> {
-    let damage = [LISTS.families(), DAMAGED_LISTS.families()].concat();
-    let path = [vec![DRAWN, CUT], SEGMENTS.to_vec(), damage];
-    [path.concat(), vec![OUTSIDE], outlines::families()].concat()
+    let path = [vec![DRAWN, CUT], SEGMENTS.to_vec(), damages()];
+    [path.concat(), outlines::families()].concat()
+}
+
+pub fn damages() -> Vec<Family> {
+    let lists = [LISTS.families(), DAMAGED_LISTS.families()].concat();
+    [lists, vec![OUTSIDE]].concat()
+}
+
+/// A path as it is lent: rarely is a list too short, or a number beyond the limit.
+pub fn damage(path: &mut Path, families: &mut Vec<Family>, random: &mut Random) {
+    let lists = if random.one_in(8) {
+        &DAMAGED_LISTS
+    } else {
+        &LISTS
+    };
+    lists.draw(random, families)(path, random);
+    if random.one_in(12) {
+        put_outside(&mut path.numbers, random);
+        families.push(OUTSIDE);
+    }
 }
 
 impl Writing {
@@ -32,16 +50,7 @@ impl Writing {
         } else {
             Writing::drawn(random)
         };
-        let lists = if random.one_in(8) {
-            &DAMAGED_LISTS
-        } else {
-            &LISTS
-        };
-        lists.draw(random, &mut writing.families)(&mut writing.path, random);
-        if random.one_in(12) {
-            put_outside(&mut writing.path.numbers, random);
-            writing.families.push(OUTSIDE);
-        }
+        damage(&mut writing.path, &mut writing.families, random);
         writing
     }
 

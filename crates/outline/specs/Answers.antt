@@ -11,6 +11,8 @@ use Rattle.cubic_calls.specs.declared.answers.Point.{Point}
 use Rattle.cubic_calls.specs.declared.answers.Filled.{Filled}
 use Rattle.call.specs.declared.answers.Outline.{Outline}
 use Rattle.call.specs.declared.answers.Outline.the-variants as outline
+use Rattle.corner_calls.specs.declared.calls.Corners.{Corners}
+use Rattle.corner_calls.specs.declared.calls.Corners.the-variants as corners
 use Rattle.svg.specs.declared.calls.Answer.{Answer}
 use Rattle.svg.specs.declared.calls.Answer.the-variants as text
 use Rattle.cubic_calls.specs.declared.answers.Number.the-variants as number
@@ -78,3 +80,12 @@ outlineCode (outline.Accepted subpaths count) = 0
 unfoldable pub outlineWords : Outline → List ℕ
 outlineWords (outline.Refused n place) = words place 0
 outlineWords (outline.Accepted subpaths count) = 0 ∷ count ∷ subpaths ∷ 0 ∷ []
+
+-- ---- corners in lists
+unfoldable pub cornersCode : Corners → ℕ
+cornersCode (corners.Refused n place) = n
+cornersCode (corners.Accepted count) = 0
+
+unfoldable pub cornersWords : Corners → List ℕ
+cornersWords (corners.Refused n place) = words place 0
+cornersWords (corners.Accepted count) = words 0 count

@@ -12,6 +12,7 @@ use cubic_calls::Point;
 use geom::P;
 
 mod caches;
+mod corners;
 mod paths;
 
 // The control points of a cubic, from eight numbers, x before y.

@@ -1,10 +1,7 @@
 //! The library's speed beside the original's, as ratios from one run: what else the machine does
 //! slows both, since their rounds alternate.
-
-#[cfg(feature = "cut")]
 mod cuts;
 mod points;
-#[cfg(feature = "text")]
 mod text;
 
 use crate::random::Random;
@@ -29,9 +26,7 @@ type Calls<'a> = Box<dyn FnMut(Range<usize>) + 'a>;
 
 pub fn run(random: &mut Random) {
     measure(points::Inputs::draw(random).races());
-    #[cfg(feature = "cut")]
     measure(cuts::Inputs::draw(random).races());
-    #[cfg(feature = "text")]
     measure(text::Inputs::draw(random).races());
 }
 

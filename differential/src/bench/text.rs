@@ -21,7 +21,14 @@ const TEXT: usize = (6 * (LONGEST + 1) + 2) * (ANCHORS + 1);
 
 pub struct Inputs {
     numbers: Vec<f64>,
-    paths: Vec<(Path, BezPath)>,
+    paths: Vec<Written>,
+}
+
+struct Written {
+    path: Path,
+    original: BezPath,
+    /// Bytes of its text.
+    length: usize,
 }
 
 impl Inputs {
@@ -53,26 +60,37 @@ impl Inputs {
                     }
                 }),
             },
-            Race {
-                name: "to_svg_d, 64 anchors",
-                calls: PATHS,
-                inputs: paths.len(),
-                ours: Box::new(move |at| {
-                    let (mut out, mut answer) = ([0; TEXT], [0; 4]);
-                    for (path, _) in &paths[at] {
-                        let Path { shapes, numbers } = path;
-                        let refusal = ffi::to_svg_d(shapes, numbers, &mut out, &mut answer);
-                        assert_eq!(refusal, ACCEPTED);
-                        black_box(&out);
-                    }
-                }),
-                original: Box::new(move |at| {
-                    for (_, path) in &paths[at] {
-                        black_box(&original_to_svg_d(path));
-                    }
-                }),
-            },
+            race("to_svg_d, 64 anchors, room for any text", paths, |_| TEXT),
+            race(
+                "to_svg_d, 64 anchors, room for the text alone",
+                paths,
+                |written| written.length,
+            ),
         ]
+    }
+}
+
+/// The library's buffer has so many bytes.
+fn race<'a>(name: &'static str, paths: &'a [Written], room: fn(&Written) -> usize) -> Race<'a> {
+    Race {
+        name,
+        calls: PATHS,
+        inputs: paths.len(),
+        ours: Box::new(move |at| {
+            let (mut out, mut answer) = ([0; TEXT], [0; 4]);
+            for written in &paths[at] {
+                let Path { shapes, numbers } = &written.path;
+                let out = &mut out[..room(written)];
+                let refusal = ffi::to_svg_d(shapes, numbers, out, &mut answer);
+                assert_eq!(refusal, ACCEPTED);
+                black_box(&out);
+            }
+        }),
+        original: Box::new(move |at| {
+            for written in &paths[at] {
+                black_box(&original_to_svg_d(&written.original));
+            }
+        }),
     }
 }
 
@@ -91,7 +109,7 @@ fn original_to_svg_d(path: &BezPath) -> String {
 }
 
 /// A closed subpath with all its handles.
-fn curve(random: &mut Random) -> (Path, BezPath) {
+fn curve(random: &mut Random) -> Written {
     let mut point = || P::new(0.01 * uniform(random), 0.01 * uniform(random));
     let anchors = (0..ANCHORS)
         .map(|_| Anchor {
@@ -100,9 +118,13 @@ fn curve(random: &mut Random) -> (Path, BezPath) {
             h_out: point(),
         })
         .collect();
-    let path = vec![SubPath {
+    let original = vec![SubPath {
         anchors,
         closed: true,
     }];
-    (Path::of(&path), path)
+    Written {
+        path: Path::of(&original),
+        length: original_to_svg_d(&original).len(),
+        original,
+    }
 }

@@ -1,0 +1,4 @@
+pub mod Chosen
+pub mod Found
+pub mod Listed
+pub mod Outcomes
