@@ -1,0 +1,11 @@
+pub mod Samples
+pub mod Orders
+pub mod Spelling
+pub mod Shapes
+pub mod Scans
+pub mod Accepting
+pub mod Theorems
+pub mod Numbers
+pub mod Laying
+pub mod Turns
+pub mod Outcomes
