@@ -2,3 +2,4 @@ pub mod Chosen
 pub mod Found
 pub mod Listed
 pub mod Outcomes
+mod Samples
