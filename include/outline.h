@@ -103,6 +103,20 @@ uint32_t outline_write_num(double x, uint8_t *out, size_t out_len, outline_answe
 uint32_t outline_to_svg_d(const uint32_t *shapes, size_t shapes_len, const double *anchors, size_t anchors_len,
                           uint8_t *out, size_t out_len, outline_answer *answer);
 
+/* Edits of a path, in place: its lists are read and written. subpaths and count say what the path then has; words and
+ * numbers past it keep their bits. A subpath's segments start at its anchors 0, 1, .., the last one's too where it is closed. */
+
+/* Cuts segment a of subpath s in two at t, by de Casteljau's subdivision. The new anchor stands at the index a + 1, also in
+ * the segment that closes a subpath. The anchor list needs six entries more. Refuses 7, 5, 6, 10, 9 at the index in the
+ * split path, 8. */
+uint32_t outline_split(uint32_t *shapes, size_t shapes_len, double *anchors, size_t anchors_len, size_t s, size_t a, double t,
+                       outline_answer *answer);
+
+/* The anchors of subpath s of a drawing in the other direction, their handles on the other sides. The radii are read only:
+ * their list keeps its order. Refuses 7, 5, 6. */
+uint32_t outline_reversed(const uint32_t *shapes, size_t shapes_len, double *anchors, size_t anchors_len,
+                          const double *radii, size_t radii_len, size_t s, outline_answer *answer);
+
 #ifdef __cplusplus
 }
 #endif

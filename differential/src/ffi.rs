@@ -107,6 +107,28 @@ extern "C" {
         numbers_len: usize,
         answer: *mut Answer,
     ) -> u32;
+
+    fn outline_split(
+        shapes: *mut u32,
+        shapes_len: usize,
+        anchors: *mut f64,
+        anchors_len: usize,
+        s: usize,
+        a: usize,
+        t: f64,
+        answer: *mut Answer,
+    ) -> u32;
+
+    fn outline_reversed(
+        shapes: *const u32,
+        shapes_len: usize,
+        anchors: *mut f64,
+        anchors_len: usize,
+        radii: *const f64,
+        radii_len: usize,
+        s: usize,
+        answer: *mut Answer,
+    ) -> u32;
 }
 
 pub fn root(x: f64) -> f64 {
@@ -258,6 +280,43 @@ pub fn path_corners(
             places.len(),
             numbers.as_mut_ptr(),
             numbers.len(),
+            answer,
+        )
+    }
+}
+
+pub fn split(
+    shapes: &mut [u32],
+    anchors: &mut [f64],
+    s: usize,
+    a: usize,
+    t: f64,
+    answer: &mut Answer,
+) -> u32 {
+    let (shapes, shapes_len) = (shapes.as_mut_ptr(), shapes.len());
+    let (anchors, anchors_len) = (anchors.as_mut_ptr(), anchors.len());
+    unsafe { outline_split(shapes, shapes_len, anchors, anchors_len, s, a, t, answer) }
+}
+
+pub fn reversed(
+    shapes: &[u32],
+    anchors: &mut [f64],
+    radii: &[f64],
+    s: usize,
+    answer: &mut Answer,
+) -> u32 {
+    let (shapes, shapes_len) = (shapes.as_ptr(), shapes.len());
+    let (anchors, anchors_len) = (anchors.as_mut_ptr(), anchors.len());
+    let (radii, radii_len) = (radii.as_ptr(), radii.len());
+    unsafe {
+        outline_reversed(
+            shapes,
+            shapes_len,
+            anchors,
+            anchors_len,
+            radii,
+            radii_len,
+            s,
             answer,
         )
     }

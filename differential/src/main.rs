@@ -16,6 +16,7 @@ mod curves;
 mod cuts;
 mod damage;
 mod drawings;
+mod edits;
 mod family;
 mod ffi;
 mod guard;
@@ -61,6 +62,11 @@ fn drawings(cases: u64) -> u64 {
 /// Paths whose corners are listed.
 fn corner_paths(cases: u64) -> u64 {
     (cases / 20).max(50_000)
+}
+
+/// Edits of paths, which take less than a cut.
+fn edits(cases: u64) -> u64 {
+    (cases / 5).max(50_000)
 }
 
 fn main() -> ExitCode {
@@ -121,6 +127,8 @@ fn run(seed: u64, cases: u64) -> ExitCode {
     tell(corners::run(corner_paths(cases), &mut random));
     tell(text::write_num(NUMERALS * cases, &mut random));
     tell(text::to_svg_d(drawings(cases), &mut random));
+    tell(edits::split(edits(cases), &mut random));
+    tell(edits::reversed(edits(cases), &mut random));
     let seconds = start.elapsed().as_secs_f64();
     let verdict = if passed { "passed" } else { "FAILED" };
     println!("{verdict}: seed {seed}, {cases} cases of each call, {seconds:.1} seconds");

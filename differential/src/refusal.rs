@@ -5,6 +5,10 @@ pub const ACCEPTED: u32 = 0;
 pub const LISTS: u32 = 7;
 /// An argument breaks the limit.
 pub const ARGUMENTS: u32 = 5;
+/// No such subpath, anchor or segment.
+pub const REFERENCE: u32 = 6;
+/// The result would have more anchors than a path may.
+pub const CAPACITY: u32 = 10;
 /// The result breaks the limit.
 pub const RESULT: u32 = 9;
 /// The buffer lent for the result is too short.

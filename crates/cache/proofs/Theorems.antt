@@ -82,7 +82,7 @@ module _ (shapes : List ℕ) (anchors radii : List Float) (kind : CornerKind) wh
       rw (sub-of shapes s i l (omega (arith, size-at shapes anchors radii kind s)), e)
 
   -- so the outline of the places is the plain cut
-  subpath-cut : (s : ℕ) → s < length shapes → subpathOutline shapes place s ≡ cutCorners (view s)
+  pub subpath-cut : (s : ℕ) → s < length shapes → subpathOutline shapes place s ≡ cutCorners (view s)
   unfolding subpathOutline cutCorners viewAt viewOf subAt
   subpath-cut s l = assembled-same (view s .n) (view s .closed) (λ i. place (start shapes s + i)) (placeAt (view s)) (λ i h. place-of s i l h)
 

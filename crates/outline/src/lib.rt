@@ -13,6 +13,7 @@ use geom::P;
 
 mod caches;
 mod corners;
+mod edits;
 mod paths;
 
 // The control points of a cubic, from eight numbers, x before y.

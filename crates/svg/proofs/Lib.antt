@@ -6,3 +6,4 @@ pub mod Outcomes
 mod Samples
 mod Drawings
 mod Controls
+pub mod Texts

@@ -1,0 +1,8 @@
+pub mod Bounded
+pub mod Gaps
+pub mod Inserts
+pub mod Made
+pub mod Outcomes
+pub mod Segments
+pub mod Splits
+pub mod Turning

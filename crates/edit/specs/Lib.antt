@@ -1,0 +1,4 @@
+pub mod Gap
+pub mod Limit
+pub mod Split
+pub mod Reversed

@@ -1,0 +1,113 @@
+-- How many places an edit recuts: as many as lie within its steps in the subpath; and document 01's sample counts. Assumes nothing.
+use mathlib.Core.Path.{_≡_, refl, ap, _∙_}
+use mathlib.Core.Bool.{Bool, true, false}
+use mathlib.Core.List.{[], _∷_}
+use Prim.Native.Nat.{ℕ, zero, suc, _+_, _-_, _≤_, _<_, zero-le, suc-le-suc}
+use native.Mathlib.Nat.{add-zero}
+use native.Mathlib.Numerals.{add-one}
+use native.Mathlib.Omega.{arith}
+use lib.Ieee.{Float}
+use Rattle.views.specs.Search.{count}
+use Rattle.views.proofs.Searches.{count-more, count-same}
+use Rattle.path.specs.declared.anchor.Anchor.{Anchor}
+use Rattle.path.specs.Shape.{countOf, closedOf, total, wordAt, start}
+use Rattle.path.proofs.Shapes.{total-in}
+use Rattle.cut.specs.View.{View}
+use Rattle.cut.specs.Subpath.{viewOf}
+use Rattle.cut.specs.Near.{gap, near, nearCount}
+use Rattle.cut.specs.Recut.{reached}
+use Rattle.cut_calls.specs.PlainCut.{subAt}
+use Rattle.session.specs.Drawing.{Drawing, viewIn}
+use Rattle.session.specs.Edits.{Call, move, setRadius, split, moved, resized, splitAt, editOf}
+use Rattle.session.specs.Model.{recutCount}
+use Rattle.session.proofs.Splits.{reached-here, reached-below, reached-past, split-count, split-closed, split-total}
+use Rattle.session.proofs.Effects.{has-sub, segment-sub, segment-there, sub-small}
+
+-- ---- counts in parts
+count-none : (p : ℕ → Bool) (n : ℕ) → ((k : ℕ) → k < n → p k ≡ false) → count p n ≡ 0
+unfolding count
+count-none p zero h = refl
+count-none p (suc n) h = rw (h zero (suc-le-suc zero-le)) (count-none (λ k. p (suc k)) n (λ k l. h (suc k) (suc-le-suc l)))
+
+pub count-cong : (p q : ℕ → Bool) (n : ℕ) → ((k : ℕ) → k < n → p k ≡ q k) → count p n ≡ count q n
+unfolding count
+count-cong p q zero h = refl
+count-cong p q (suc n) h = rw (h zero (suc-le-suc zero-le), count-cong (λ k. p (suc k)) (λ k. q (suc k)) n (λ k l. h (suc k) (suc-le-suc l)))
+
+count-add : (p : ℕ → Bool) (a b : ℕ) → count p (a + b) ≡ count p a + count (λ i. p (a + i)) b
+count-add p a zero = rw (add-zero, count-none (λ i. p (a + i)) 0 (λ k l. absurd (omega arith)), add-zero)
+count-add p a (suc b) =
+    let x : a + suc b ≡ a + b + 1 = omega arith in
+    rw (x, ← add-one b) (step (p (a + b)) refl (count-add p a b))
+  where
+    step : (t : Bool) → p (a + b) ≡ t → count p (a + b) ≡ count p a + count (λ i. p (a + i)) b → count p (a + b + 1) ≡ count p a + count (λ i. p (a + i)) (b + 1)
+    step true e h = omega (arith, count-more p (a + b) e, count-more (λ i. p (a + i)) b e)
+    step false e h = omega (arith, count-same p (a + b) e, count-same (λ i. p (a + i)) b e)
+
+-- ---- the places of a path that are recut are those of the subpath, each once
+pub reached-count : (v : View) (first reach at n : ℕ) → first + v .n ≤ n → count (reached v first reach at) n ≡ nearCount reach (v .n) (v .closed) at
+unfolding nearCount
+reached-count v first reach at n l =
+    let p = reached v first reach at in
+    let z = n - (first + v .n) in
+    let e : n ≡ first + (v .n + z) = omega arith in
+    let x : count p first ≡ 0 = count-none p first (λ k h. reached-below v first reach at k h) in
+    let y : count (λ k. p (first + k)) (v .n) ≡ count (near reach (v .n) (v .closed) at) (v .n) = count-cong _ _ (v .n) (λ k h. here k h) in
+    let w : count (λ k. p (first + (v .n + k))) z ≡ 0 = count-none _ z (λ k h. reached-past v first reach at (first + (v .n + k)) (omega arith)) in
+    ap (count p) e ∙ omega (arith, count-add p first (v .n + z), count-add (λ k. p (first + k)) (v .n) z)
+  where
+    here : (k : ℕ) → k < v .n → reached v first reach at (first + k) ≡ near reach (v .n) (v .closed) at k
+    here k h = reached-here v first reach at (first + k) (omega arith) (omega arith) ∙ ap (near reach (v .n) (v .closed) at) (omega arith)
+
+made-n : (d : Drawing) (s a : ℕ) (t : Float) → viewIn (splitAt d s a t) s .n ≡ countOf (wordAt (splitAt d s a t .shapes) s)
+unfolding viewIn viewOf subAt
+made-n d s a t = refl
+
+made-closed : (d : Drawing) (s a : ℕ) (t : Float) → viewIn (splitAt d s a t) s .closed ≡ closedOf (wordAt (splitAt d s a t .shapes) s)
+unfolding viewIn viewOf subAt
+made-closed d s a t = refl
+
+split-recut : (d : Drawing) (s a : ℕ) (t : Float) → total (d .shapes) ≤ 512 → editOf d (split s a t) .known ≡ true
+    → count (reached (viewIn (splitAt d s a t) s) (start (d .shapes) s) 4 (a + 1)) (total (splitAt d s a t .shapes))
+    ≡ nearCount 4 (countOf (wordAt (d .shapes) s) + 1) (closedOf (wordAt (d .shapes) s)) (a + 1)
+unfolding editOf splitAt
+split-recut d s a t few h =
+    let there = segment-sub (d .shapes) s a h in
+    let seg = segment-there (d .shapes) s a h in
+    let small = sub-small (d .shapes) s there few in
+    let v = viewIn (splitAt d s a t) s in
+    let n : v .n ≡ countOf (wordAt (d .shapes) s) + 1 = made-n d s a t ∙ split-count d s a t there seg small in
+    let c : v .closed ≡ closedOf (wordAt (d .shapes) s) = made-closed d s a t ∙ split-closed d s a t there seg small in
+    reached-count v (start (d .shapes) s) 4 (a + 1) (total (splitAt d s a t .shapes)) (omega (arith, split-total d s a t there seg small, total-in (d .shapes) s there))
+    ∙ rw (n, c)
+
+pub recut-count : (d : Drawing) (c : Call) → total (d .shapes) ≤ 512 → editOf d c .known ≡ true → count (editOf d c .recuts) (total (editOf d c .made .shapes)) ≡ recutCount d c
+unfolding recutCount editOf moved resized viewIn viewOf subAt
+recut-count d (move s i new) few h = reached-count (viewIn (moved d (start (d .shapes) s + i) new) s) (start (d .shapes) s) 3 i (total (d .shapes)) (total-in (d .shapes) s (has-sub (d .shapes) s i h))
+recut-count d (setRadius s i r) few h = reached-count (viewIn (resized d (start (d .shapes) s + i) r) s) (start (d .shapes) s) 2 i (total (d .shapes)) (total-in (d .shapes) s (has-sub (d .shapes) s i h))
+recut-count d (split s a t) few h = split-recut d s a t few h
+
+-- ---- document 01's sample pieces, on any drawing of one subpath: closed 8, move 7, radius 5; closed 5, move 5; open 10, move of anchor 0, 4; open 10 split at segment 0, 6
+module _ (kind : ℕ) (f : ℕ → Anchor) (r : ℕ → Float) (new : Anchor) (x : Float) where
+  abbrev sample : ℕ → Drawing
+  sample w = record { shapes = w ∷ []; kind = kind; anchor = f; radius = r }
+
+  closed-8-move : recutCount (sample (2147483648 + 8)) (move 0 0 new) ≡ 7
+  unfolding recutCount nearCount near gap count
+  closed-8-move = refl
+
+  closed-8-radius : recutCount (sample (2147483648 + 8)) (setRadius 0 5 x) ≡ 5
+  unfolding recutCount nearCount near gap count
+  closed-8-radius = refl
+
+  closed-5-move : recutCount (sample (2147483648 + 5)) (move 0 2 new) ≡ 5
+  unfolding recutCount nearCount near gap count
+  closed-5-move = refl
+
+  open-10-move : recutCount (sample 10) (move 0 0 new) ≡ 4
+  unfolding recutCount nearCount near gap count
+  open-10-move = refl
+
+  open-10-split : recutCount (sample 10) (split 0 0 x) ≡ 6
+  unfolding recutCount nearCount near gap count
+  open-10-split = refl

@@ -1,0 +1,17 @@
+pub mod Shapes
+pub mod Judging
+pub mod Splits
+pub mod Effects
+pub mod Counts
+pub mod Lents
+pub mod Verdicts
+pub mod Step
+pub mod Spared
+pub mod Outlines
+pub mod Assembling
+pub mod Demand
+pub mod Outcomes
+pub mod Recutting
+pub mod Accepted
+pub mod Controls
+pub mod Plays
