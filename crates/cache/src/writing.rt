@@ -27,18 +27,19 @@ pub fn first_bad_place(numbers: &[f64], n: usize) -> Found
     found
 }
 
+// The places of a path that stand in scratch lists go to the cache's, unless a number of them breaks the limit.
 pub fn write_cache(
     shapes: &[u32],
     laid: &[f64],
-    marks: &[u32],
+    laid_flags: &[u32],
     numbers: &mut [f64],
     flags: &mut [u32],
 ) -> Outline
-    requires { ⌜ (length (now shapes) ≤ 32) × (total (now shapes) ≤ 512) × (total (now shapes) * 12 ≤ length (now laid)) × (total (now shapes) ≤ length (now marks)) ⌝ }
+    requires { ⌜ (length (now shapes) ≤ 32) × (total (now shapes) ≤ 512) × (total (now shapes) * 12 ≤ length (now laid)) × (total (now shapes) ≤ length (now «laid_flags»)) ⌝ }
     requires { ⌜ (total (now shapes) * 12 ≤ length (now numbers)) × (total (now shapes) ≤ length (now flags)) ⌝ }
     ensures answer { λ r. ⌜ r ≡ outlineAnswer (cacheVerdict (twelveIn (now (laid .entry))) (total (now (shapes .entry)))) (length (now (shapes .entry))) (total (now (shapes .entry))) ⌝ }
     ensures numbers { λ _. ⌜ now (numbers .exit) ≡ listLeft (cacheVerdict (twelveIn (now (laid .entry))) (total (now (shapes .entry)))) (total (now (shapes .entry)) * 12) (entry (now (laid .entry))) (now (numbers .entry)) ⌝ }
-    ensures flags { λ _. ⌜ now (flags .exit) ≡ listLeft (cacheVerdict (twelveIn (now (laid .entry))) (total (now (shapes .entry)))) (total (now (shapes .entry))) (λ k. getD (now (marks .entry)) k 0) (now (flags .entry)) ⌝ }
+    ensures flags { λ _. ⌜ now (flags .exit) ≡ listLeft (cacheVerdict (twelveIn (now (laid .entry))) (total (now (shapes .entry)))) (total (now (shapes .entry))) (λ k. getD (now («laid_flags» .entry)) k 0) (now (flags .entry)) ⌝ }
 {
     let n = path::total_of(shapes);
     let bad = first_bad_place(laid, n);
@@ -46,6 +47,6 @@ pub fn write_cache(
         return Outline::Refused(refusal::RESULT, k);
     }
     views::copy(laid, n * 12, numbers);
-    views::copy_words(marks, n, flags);
+    views::copy_words(laid_flags, n, flags);
     Outline::Accepted(shapes.len(), n)
 }

@@ -35,11 +35,11 @@ use Rattle.job.proofs.Orders.{by-members, follows-all, follows-whole, P
 use Rattle.job.proofs.Scans.{scan-on}
 
 -- words are read to their end
-abbrev Reaches : Seen → List Word → Type 0
+abbrev pub Reaches : Seen → List Word → Type 0
 Reaches s ws = (i : ℕ) → (t : Seen) × (scanFrom s i ws ≡ Done t)
 
 -- one word in front
-on : (s : Seen) (k v : ℕ) (ws : List Word) → Passed s k v → Reaches (advance s k v) ws → Reaches s (word k v ∷ ws)
+pub on : (s : Seen) (k v : ℕ) (ws : List Word) → Passed s k v → Reaches (advance s k v) ws → Reaches s (word k v ∷ ws)
 on s k v ws p r i = let n = r (suc i) in (n .0, scan-on s i k v ws p ∙ n .1)
 
 -- after a whole anchor or a subpath's word, m subpaths and n anchors having begun

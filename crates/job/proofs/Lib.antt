@@ -9,3 +9,5 @@ pub mod Numbers
 pub mod Laying
 pub mod Turns
 pub mod Outcomes
+pub mod Prefixes
+pub mod Openings

@@ -1,13 +1,13 @@
--- A payload's number is exact, and every number that a job gives is within the limit. Assumes nothing.
+-- A payload's number is exact, every number that a job gives is within the limit, and its shape words say count and closed. Assumes nothing.
 use mathlib.Core.Path.{_≡_, refl, sym, ap, _∙_}
 use mathlib.Core.Logic.{⊎-elim}
-use mathlib.Core.Bool.{Bool, true, false, not}
+use mathlib.Core.Bool.{Bool, true, false, not, cond}
 use mathlib.Core.List.{List, [], _∷_, _++_, map}
 use mathlib.Core.Option.{Option, none, some}
-use Prim.Native.Nat.{ℕ, zero, suc, _+_, _-_, _*_, _^_, _≤_, _<_}
+use Prim.Native.Nat.{ℕ, zero, suc, _+_, _-_, _*_, _%_, _^_, _≤_, _<_}
 use native.Mathlib.Nat.{le-of-lt, lt-trans, mul-le-mul-right, mul-assoc}
 use native.Mathlib.Omega.{arith}
-use lib.Dec.{lit<}
+use lib.Dec.{leb, lit<}
 use lib.Pow.{shl-lt}
 use lib.ListN.{length}
 use lib.Ieee.{Float, nan, inf, fin, up, down, binary64, ofBits, ofInt, div, neg, round}
@@ -15,14 +15,14 @@ use lib.Ieee.Fits.{down-pos}
 use lib.Ieee.Exact.{HasValue, round-exact}
 use lib.Ieee.Back.{round-whole}
 use lib.Ieee.Scale.{round-same}
-use borrow.Author.Tests.{le-leb, lt-ltb, le-ltb}
+use borrow.Author.Tests.{le-leb, lt-leb, lt-ltb, le-ltb}
 use Rattle.views.specs.View.{entry}
 use Rattle.views.proofs.Laws.{order}
 use Rattle.real.specs.Limit.{inLimit}
 use Rattle.real.specs.Operators.{_⊘_, float, 0f}
 use Rattle.job.specs.Number.{1024f, number}
-use Rattle.job.specs.Grammar.{Anchor}
-use Rattle.job.specs.Content.{radius, radiusOf, sixOf, numbersOf}
+use Rattle.job.specs.Grammar.{Anchor, Subpath, Job}
+use Rattle.job.specs.Content.{shapeWord, radius, radiusOf, sixOf, numbersOf, jobAnchors, jobNumbers, jobRadii}
 
 -- ---- n / 1024, exactly
 -- the quotient of what has the value n
@@ -78,7 +78,7 @@ radius-in a = go (a .radius)
     go (some r) = number-in r
 
 -- every one of a list
-abbrev AllIn : List Float → Type 0
+abbrev pub AllIn : List Float → Type 0
 AllIn xs = (i : ℕ) → i < length xs → inLimit (entry xs i) ≡ true
 
 six-in : (a : Anchor) (xs : List Float) → AllIn xs → AllIn (sixOf a ++ xs)
@@ -91,12 +91,36 @@ six-in a xs h (suc (suc (suc (suc zero)))) l = number-in _
 six-in a xs h (suc (suc (suc (suc (suc zero))))) l = number-in _
 six-in a xs h (suc (suc (suc (suc (suc (suc i)))))) l = h i (omega arith)
 
-pub numbers-in : (more : List Anchor) → AllIn (numbersOf more)
+numbers-in : (more : List Anchor) → AllIn (numbersOf more)
 unfolding numbersOf
 numbers-in [] i l = absurd (omega arith)
 numbers-in (a ∷ more) i l = six-in a (numbersOf more) (numbers-in more) i l
 
-pub radii-in : (more : List Anchor) → AllIn (map radiusOf more)
+radii-in : (more : List Anchor) → AllIn (map radiusOf more)
 radii-in [] i l = absurd (omega arith)
 radii-in (a ∷ more) zero l = radius-in a
 radii-in (a ∷ more) (suc i) l = radii-in more i (omega arith)
+
+-- so that refusal 5 cannot follow a job
+pub job-numbers-in : (j : Job) → AllIn (jobNumbers j)
+job-numbers-in j = numbers-in (jobAnchors j)
+
+pub job-radii-in : (j : Job) → AllIn (jobRadii j)
+job-radii-in j = radii-in (jobAnchors j)
+
+-- ---- shape words: the rest is the count and the top bit says closed, where a path may have so many anchors
+pub shape-count : (s : Subpath) → length (s .anchors) ≤ 512 → shapeWord s % 2147483648 ≡ length (s .anchors)
+unfolding shapeWord
+shape-count s h = go (s .closed)
+  where
+    go : (c : Bool) → (cond c 2147483648 0 + length (s .anchors)) % 2147483648 ≡ length (s .anchors)
+    go true = omega arith
+    go false = omega arith
+
+pub shape-closed : (s : Subpath) → length (s .anchors) ≤ 512 → leb 2147483648 (shapeWord s) ≡ s .closed
+unfolding shapeWord
+shape-closed s h = go (s .closed)
+  where
+    go : (c : Bool) → leb 2147483648 (cond c 2147483648 0 + length (s .anchors)) ≡ c
+    go true = le-leb 2147483648 (2147483648 + length (s .anchors)) (omega arith)
+    go false = lt-leb 2147483648 (0 + length (s .anchors)) (omega arith)

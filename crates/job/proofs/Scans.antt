@@ -22,11 +22,11 @@ use Rattle.job.proofs.Shapes.{Shaped, Step, steps}
 module _ (s : Seen) (i : ℕ) where
   pub scan-end : (t : Seen) → scanFrom s i [] ≡ Done t → (s .last ≡ 15) × (s ≡ t)
   unfolding scanFrom
-  scan-end t = go (eqb (s .last) 15) refl
+  scan-end t = go _ (eqb (s .last) 15) refl
     where
-      go : (b : Bool) → eqb (s .last) 15 ≡ b → cond b (Done s) (Refused 1 i) ≡ Done t → (s .last ≡ 15) × (s ≡ t)
-      go true e h = (eqb-true (s .last) 15 e, cc)
-      go false e h = let z : _≡_ {A = ℕ} 0 1 = cc in absurd (omega arith)
+      go : (place : ℕ) (b : Bool) → eqb (s .last) 15 ≡ b → cond b (Done s) (Refused 1 place) ≡ Done t → (s .last ≡ 15) × (s ≡ t)
+      go place true e h = (eqb-true (s .last) 15 e, cc)
+      go place false e h = let z : _≡_ {A = ℕ} 0 1 = cc in absurd (omega arith)
 
   pub scan-word : (k v : ℕ) (ws : List Word) (t : Seen) → scanFrom s i (word k v ∷ ws) ≡ Done t → (Passed s k v) × (scanFrom (advance s k v) (suc i) ws ≡ Done t)
   unfolding scanFrom settle

@@ -1,4 +1,5 @@
-// The order of a job's words: which may come, by the last one's kind and by how much has been read.
+// The order of a job's words: which may come, by the last one's kind and by how much has been read. The kinds are 0 head, 1 subpath, 2 and 3
+// an anchor's point, 4 and 5 its handle in, 6 and 7 its handle out, 8 its radius, 15 end; x comes before y.
 ghost use mathlib.Core.Path.{_≡_};
 ghost use Rattle.job.specs.Order.{isWhole, mayFollow, payloads, isFull, refusalOf, advance, Fair};
 
