@@ -32,23 +32,20 @@ use Rattle.job.specs.Content.{shapeWord, shapeWords, radiusOf, numbersOf, jobAn
 use Rattle.job.specs.Reading.{Reading, refused, accepted, reading}
 use Rattle.job.specs.Call.{fileRead, roomFor, roomed, outcome, answerOf, shapesLeft, anchorsLeft, radiiLeft, readAnswer, readShapes, readAnchors, readRadii}
 use Rattle.job.proofs.Theorems.{sound}
-use Rattle.job.proofs.Numbers.{numbers-in, radii-in}
+use Rattle.job.proofs.Numbers.{job-numbers-in, job-radii-in, shape-count}
 use Rattle.job.proofs.Laying.{numbers-length}
 use Rattle.printing.specs.Refused.{refusedText}
 use Rattle.printing.specs.Printed.{drawingText, readText, printed}
 
 -- ---- the lists of a job
 total-anchors : (ss : List Subpath) → length (anchorsOf ss) ≤ 512 → total (map shapeWord ss) ≡ length (anchorsOf ss)
-unfolding shapeWord anchorsOf
+unfolding anchorsOf
 total-anchors [] h = refl
 total-anchors (s ∷ ss) h =
     let a = length-append (s .anchors) (anchorsOf ss) in
     let r = total-anchors ss (omega arith) in
-    go (s .closed) (omega arith) ∙ ap (λ n. length (s .anchors) + n) r ∙ sym a
-  where
-    go : (b : Bool) → length (s .anchors) ≤ 512 → (cond b 2147483648 0 + length (s .anchors)) % 2147483648 + total (map shapeWord ss) ≡ length (s .anchors) + total (map shapeWord ss)
-    go true l = omega arith
-    go false l = omega arith
+    let c = shape-count s (omega arith) in
+    omega arith
 
 known-by : (k : ℕ) → k < 3 → (way : CornerKind) × (kindOf k ≡ Known way)
 unfolding kindOf
@@ -66,7 +63,7 @@ module _ (j : Job) (w : Within j) where
       let n = numbers-length (jobAnchors j) in
       let r = length-map (jobAnchors j) radiusOf in
       let c = count in
-      place-in (jobNumbers j) k (jobRadii j) (anchor-in (jobNumbers j) k (λ i h. numbers-in (jobAnchors j) (k * 6 + i) (omega arith))) (radii-in (jobAnchors j) k (omega arith))
+      place-in (jobNumbers j) k (jobRadii j) (anchor-in (jobNumbers j) k (λ i h. job-numbers-in j (k * 6 + i) (omega arith))) (job-radii-in j k (omega arith))
 
   pub job-drawn : Drawn (shapeWords j) (jobNumbers j) (jobRadii j) (j .kind)
   job-drawn =
