@@ -117,6 +117,21 @@ uint32_t outline_split(uint32_t *shapes, size_t shapes_len, double *anchors, siz
 uint32_t outline_reversed(const uint32_t *shapes, size_t shapes_len, double *anchors, size_t anchors_len,
                           const double *radii, size_t radii_len, size_t s, outline_answer *answer);
 
+/* Hits: the nearest anchor to (x, y), and the nearest point of the path by 48 chords to a segment, where it is within tol
+ * (equal counts), the first on ties; at most 32 subpaths and 512 anchors. The four words of the answer are here place, the
+ * anchor (of a segment: the one at which it starts), the subpath, and 1 where something was found, 0 where nothing was.
+ * *t is the parameter along the segment, written only where something was found. Both refuse 7, 5. */
+uint32_t outline_hit_anchor(const uint32_t *shapes, size_t shapes_len, const double *anchors, size_t anchors_len,
+                            double x, double y, double tol, outline_answer *answer);
+
+uint32_t outline_hit_segment(const uint32_t *shapes, size_t shapes_len, const double *anchors, size_t anchors_len,
+                             double x, double y, double tol, double *t, outline_answer *answer);
+
+/* The box around a path, at most 32 subpaths and 1,024 anchors: its least x and y, then its greatest. count is 1, or 0
+ * where the path has no anchor, and corners keeps its bits. Refuses 7, 5, 9. */
+uint32_t outline_bounds(const uint32_t *shapes, size_t shapes_len, const double *anchors, size_t anchors_len,
+                        double corners[4], outline_answer *answer);
+
 #ifdef __cplusplus
 }
 #endif

@@ -129,6 +129,38 @@ extern "C" {
         s: usize,
         answer: *mut Answer,
     ) -> u32;
+
+    fn outline_hit_anchor(
+        shapes: *const u32,
+        shapes_len: usize,
+        anchors: *const f64,
+        anchors_len: usize,
+        x: f64,
+        y: f64,
+        tol: f64,
+        answer: *mut Answer,
+    ) -> u32;
+
+    fn outline_hit_segment(
+        shapes: *const u32,
+        shapes_len: usize,
+        anchors: *const f64,
+        anchors_len: usize,
+        x: f64,
+        y: f64,
+        tol: f64,
+        t: *mut f64,
+        answer: *mut Answer,
+    ) -> u32;
+
+    fn outline_bounds(
+        shapes: *const u32,
+        shapes_len: usize,
+        anchors: *const f64,
+        anchors_len: usize,
+        corners: *mut [f64; 4],
+        answer: *mut Answer,
+    ) -> u32;
 }
 
 pub fn root(x: f64) -> f64 {
@@ -320,4 +352,49 @@ pub fn reversed(
             answer,
         )
     }
+}
+
+pub fn hit_anchor(
+    shapes: &[u32],
+    anchors: &[f64],
+    x: f64,
+    y: f64,
+    tol: f64,
+    answer: &mut Answer,
+) -> u32 {
+    let (shapes, shapes_len) = (shapes.as_ptr(), shapes.len());
+    let (anchors, anchors_len) = (anchors.as_ptr(), anchors.len());
+    unsafe { outline_hit_anchor(shapes, shapes_len, anchors, anchors_len, x, y, tol, answer) }
+}
+
+pub fn hit_segment(
+    shapes: &[u32],
+    anchors: &[f64],
+    x: f64,
+    y: f64,
+    tol: f64,
+    t: &mut f64,
+    answer: &mut Answer,
+) -> u32 {
+    let (shapes, shapes_len) = (shapes.as_ptr(), shapes.len());
+    let (anchors, anchors_len) = (anchors.as_ptr(), anchors.len());
+    unsafe {
+        outline_hit_segment(
+            shapes,
+            shapes_len,
+            anchors,
+            anchors_len,
+            x,
+            y,
+            tol,
+            t,
+            answer,
+        )
+    }
+}
+
+pub fn bounds(shapes: &[u32], anchors: &[f64], corners: &mut [f64; 4], answer: &mut Answer) -> u32 {
+    let (shapes, shapes_len) = (shapes.as_ptr(), shapes.len());
+    let (anchors, anchors_len) = (anchors.as_ptr(), anchors.len());
+    unsafe { outline_bounds(shapes, shapes_len, anchors, anchors_len, corners, answer) }
 }

@@ -20,6 +20,7 @@ mod edits;
 mod family;
 mod ffi;
 mod guard;
+mod hits;
 mod lents;
 mod numerals;
 mod original;
@@ -67,6 +68,11 @@ fn corner_paths(cases: u64) -> u64 {
 /// Edits of paths, which take less than a cut.
 fn edits(cases: u64) -> u64 {
     (cases / 5).max(50_000)
+}
+
+/// Hits and boxes.
+fn hits(cases: u64) -> u64 {
+    (cases / 10).max(50_000)
 }
 
 fn main() -> ExitCode {
@@ -129,6 +135,9 @@ fn run(seed: u64, cases: u64) -> ExitCode {
     tell(text::to_svg_d(drawings(cases), &mut random));
     tell(edits::split(edits(cases), &mut random));
     tell(edits::reversed(edits(cases), &mut random));
+    tell(hits::hit_anchor(hits(cases), &mut random));
+    tell(hits::hit_segment(hits(cases), &mut random));
+    tell(hits::bounds(hits(cases), &mut random));
     let seconds = start.elapsed().as_secs_f64();
     let verdict = if passed { "passed" } else { "FAILED" };
     println!("{verdict}: seed {seed}, {cases} cases of each call, {seconds:.1} seconds");

@@ -15,6 +15,12 @@ use Rattle.corner_calls.specs.declared.calls.Corners.{Corners}
 use Rattle.corner_calls.specs.declared.calls.Corners.the-variants as corners
 use Rattle.svg.specs.declared.calls.Answer.{Answer}
 use Rattle.svg.specs.declared.calls.Answer.the-variants as text
+use Rattle.hit.specs.declared.anchors.HitAnchor.{HitAnchor}
+use Rattle.hit.specs.declared.anchors.HitAnchor.the-variants as anchor
+use Rattle.hit.specs.declared.segments.HitSegment.{HitSegment}
+use Rattle.hit.specs.declared.segments.HitSegment.the-variants as segment
+use Rattle.hit.specs.declared.boxes.Extent.{Extent}
+use Rattle.hit.specs.declared.boxes.Extent.the-variants as extent
 use Rattle.cubic_calls.specs.declared.answers.Number.the-variants as number
 use Rattle.cubic_calls.specs.declared.answers.Point.the-variants as located
 use Rattle.cubic_calls.specs.declared.answers.Filled.the-variants as filled
@@ -89,3 +95,47 @@ cornersCode (corners.Accepted count) = 0
 unfoldable pub cornersWords : Corners → List ℕ
 cornersWords (corners.Refused n place) = words place 0
 cornersWords (corners.Accepted count) = words 0 count
+
+-- ---- hits: the words place, anchor, subpath, found
+unfoldable pub hitAnchorCode : HitAnchor → ℕ
+hitAnchorCode (anchor.Refused n place) = n
+hitAnchorCode anchor.Nothing = 0
+hitAnchorCode (anchor.At subpath index) = 0
+
+unfoldable pub hitAnchorWords : HitAnchor → List ℕ
+hitAnchorWords (anchor.Refused n place) = words place 0
+hitAnchorWords anchor.Nothing = words 0 0
+hitAnchorWords (anchor.At subpath index) = 0 ∷ index ∷ subpath ∷ 1 ∷ []
+
+unfoldable pub hitSegmentCode : HitSegment → ℕ
+hitSegmentCode (segment.Refused n place) = n
+hitSegmentCode segment.Nothing = 0
+hitSegmentCode (segment.At subpath index t) = 0
+
+unfoldable pub hitSegmentWords : HitSegment → List ℕ
+hitSegmentWords (segment.Refused n place) = words place 0
+hitSegmentWords segment.Nothing = words 0 0
+hitSegmentWords (segment.At subpath index t) = 0 ∷ index ∷ subpath ∷ 1 ∷ []
+
+-- what *t holds afterwards
+unfoldable pub parameterLeft : HitSegment → Float → Float
+parameterLeft (segment.Refused n place) old = old
+parameterLeft segment.Nothing old = old
+parameterLeft (segment.At subpath index t) old = t
+
+-- ---- a box: count is 1, and 0 where it is empty
+unfoldable pub extentCode : Extent → ℕ
+extentCode (extent.Refused n place) = n
+extentCode extent.Empty = 0
+extentCode (extent.Box least greatest) = 0
+
+unfoldable pub extentWords : Extent → List ℕ
+extentWords (extent.Refused n place) = words place 0
+extentWords extent.Empty = words 0 0
+extentWords (extent.Box least greatest) = words 0 1
+
+-- what corners[4] holds afterwards
+unfoldable pub cornersLeft : Extent → List Float → List Float
+cornersLeft (extent.Refused n place) old = old
+cornersLeft extent.Empty old = old
+cornersLeft (extent.Box least greatest) old = least .x ∷ least .y ∷ greatest .x ∷ greatest .y ∷ []

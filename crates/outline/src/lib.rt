@@ -14,6 +14,7 @@ use geom::P;
 mod caches;
 mod corners;
 mod edits;
+mod hits;
 mod paths;
 
 // The control points of a cubic, from eight numbers, x before y.

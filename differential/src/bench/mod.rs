@@ -1,6 +1,7 @@
 //! The library's speed beside the original's, as ratios from one run: what else the machine does
 //! slows both, since their rounds alternate.
 mod cuts;
+mod hits;
 mod points;
 mod text;
 
@@ -28,6 +29,7 @@ pub fn run(random: &mut Random) {
     measure(points::Inputs::draw(random).races());
     measure(cuts::Inputs::draw(random).races());
     measure(text::Inputs::draw(random).races());
+    measure(hits::Inputs::draw(random).races());
 }
 
 fn measure(mut races: Vec<Race>) {

@@ -1,0 +1,13 @@
+pub mod Orders
+pub mod Bars
+pub mod Walked
+pub mod Offsets
+pub mod Lent
+pub mod Subpaths
+pub mod Outcomes
+pub mod Theorems
+pub mod HitAnchors
+pub mod Candidates
+pub mod Growths
+pub mod Extents
+pub mod Within

@@ -1,0 +1,7 @@
+pub mod Nearest
+pub mod Best
+pub mod Located
+pub mod Steps
+pub mod Tried
+pub mod Points
+pub mod Calls
