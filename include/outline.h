@@ -132,6 +132,30 @@ uint32_t outline_hit_segment(const uint32_t *shapes, size_t shapes_len, const do
 uint32_t outline_bounds(const uint32_t *shapes, size_t shapes_len, const double *anchors, size_t anchors_len,
                         double corners[4], outline_answer *answer);
 
+/* The path with every point p = (x, y) at (m0 x + m2 y + m4, m1 x + m3 y + m5), its shape words as they are: at most 32 subpaths and
+ * 512 anchors. Refuses 7, 5 (a number of m at the anchor count), 9, 8. */
+uint32_t outline_transform(const uint32_t *shapes, size_t shapes_len, const double *anchors, size_t anchors_len,
+                           const double m[6], uint32_t *to_shapes, size_t to_shapes_len, double *to, size_t to_len,
+                           outline_answer *answer);
+
+/* Smooth handles for anchor k of subpath s, along its neighbours, in place; the only anchor of a subpath stays as it is. At most 32
+ * subpaths and 512 anchors. Refuses 7, 5, 6, 9 at the anchor's place. */
+uint32_t outline_auto_smooth(const uint32_t *shapes, size_t shapes_len, double *anchors, size_t anchors_len,
+                             size_t s, size_t k, outline_answer *answer);
+
+/* The rectangle of which a and b are opposite corners, closed: 4 anchors, or 8 where the radius, at most half of either side, is
+ * not below 1e-9. subpaths is 1, count the anchors. Refuses 5, 9, 8. */
+uint32_t outline_rect(double ax, double ay, double bx, double by, double radius, uint32_t *to_shapes, size_t to_shapes_len,
+                      double *to, size_t to_len, outline_answer *answer);
+
+/* The ellipse that fills the box between a and b, closed, of 4 anchors. Refuses 5, 9, 8. */
+uint32_t outline_ellipse(double ax, double ay, double bx, double by, uint32_t *to_shapes, size_t to_shapes_len,
+                         double *to, size_t to_len, outline_answer *answer);
+
+/* The line from a to b, open, of 2 anchors. Refuses 5, 8; its 9 cannot occur. */
+uint32_t outline_line(double ax, double ay, double bx, double by, uint32_t *to_shapes, size_t to_shapes_len,
+                      double *to, size_t to_len, outline_answer *answer);
+
 #ifdef __cplusplus
 }
 #endif

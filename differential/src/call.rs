@@ -5,7 +5,7 @@ use crate::compare::{mismatch, Answered, Expected};
 use crate::family::Family;
 use crate::lents::Lents;
 use crate::random::Random;
-use crate::refusal::{ACCEPTED, ARGUMENTS, LISTS, OUTPUT, RESULT};
+use crate::refusal::{ACCEPTED, ARGUMENTS, LISTS, OUTPUT, REFERENCE, RESULT};
 use crate::report::Tally;
 
 pub struct Call {
@@ -47,6 +47,7 @@ pub const REFUSES_7: Family = ("outcome", "refused 7");
 pub const REFUSES_7_SHORT: Family = ("outcome", "refused 7, and short");
 pub const REFUSES_5: Family = ("outcome", "refused 5");
 pub const REFUSES_5_SHORT: Family = ("outcome", "refused 5, and short");
+pub const REFUSES_6: Family = ("outcome", "refused 6");
 pub const REFUSES_9: Family = ("outcome", "refused 9");
 pub const REFUSES_9_SHORT: Family = ("outcome", "refused 9, and short");
 pub const REFUSES_8: Family = ("outcome", "refused 8");
@@ -58,6 +59,7 @@ pub fn outcome(expected: &Expected, short: bool) -> Family {
         (LISTS, true) => REFUSES_7_SHORT,
         (ARGUMENTS, false) => REFUSES_5,
         (ARGUMENTS, true) => REFUSES_5_SHORT,
+        (REFERENCE, _) => REFUSES_6,
         (RESULT, false) => REFUSES_9,
         (RESULT, true) => REFUSES_9_SHORT,
         (OUTPUT, _) => REFUSES_8,

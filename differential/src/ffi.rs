@@ -161,6 +161,66 @@ extern "C" {
         corners: *mut [f64; 4],
         answer: *mut Answer,
     ) -> u32;
+
+    fn outline_transform(
+        shapes: *const u32,
+        shapes_len: usize,
+        anchors: *const f64,
+        anchors_len: usize,
+        m: *const [f64; 6],
+        to_shapes: *mut u32,
+        to_shapes_len: usize,
+        to: *mut f64,
+        to_len: usize,
+        answer: *mut Answer,
+    ) -> u32;
+
+    fn outline_auto_smooth(
+        shapes: *const u32,
+        shapes_len: usize,
+        anchors: *mut f64,
+        anchors_len: usize,
+        s: usize,
+        k: usize,
+        answer: *mut Answer,
+    ) -> u32;
+
+    fn outline_rect(
+        ax: f64,
+        ay: f64,
+        bx: f64,
+        by: f64,
+        radius: f64,
+        to_shapes: *mut u32,
+        to_shapes_len: usize,
+        to: *mut f64,
+        to_len: usize,
+        answer: *mut Answer,
+    ) -> u32;
+
+    fn outline_ellipse(
+        ax: f64,
+        ay: f64,
+        bx: f64,
+        by: f64,
+        to_shapes: *mut u32,
+        to_shapes_len: usize,
+        to: *mut f64,
+        to_len: usize,
+        answer: *mut Answer,
+    ) -> u32;
+
+    fn outline_line(
+        ax: f64,
+        ay: f64,
+        bx: f64,
+        by: f64,
+        to_shapes: *mut u32,
+        to_shapes_len: usize,
+        to: *mut f64,
+        to_len: usize,
+        answer: *mut Answer,
+    ) -> u32;
 }
 
 pub fn root(x: f64) -> f64 {
@@ -397,4 +457,74 @@ pub fn bounds(shapes: &[u32], anchors: &[f64], corners: &mut [f64; 4], answer: &
     let (shapes, shapes_len) = (shapes.as_ptr(), shapes.len());
     let (anchors, anchors_len) = (anchors.as_ptr(), anchors.len());
     unsafe { outline_bounds(shapes, shapes_len, anchors, anchors_len, corners, answer) }
+}
+
+pub fn transform(
+    shapes: &[u32],
+    anchors: &[f64],
+    m: &[f64; 6],
+    to_shapes: &mut [u32],
+    to: &mut [f64],
+    answer: &mut Answer,
+) -> u32 {
+    unsafe {
+        outline_transform(
+            shapes.as_ptr(),
+            shapes.len(),
+            anchors.as_ptr(),
+            anchors.len(),
+            m,
+            to_shapes.as_mut_ptr(),
+            to_shapes.len(),
+            to.as_mut_ptr(),
+            to.len(),
+            answer,
+        )
+    }
+}
+
+pub fn rect(
+    [ax, ay, bx, by]: [f64; 4],
+    radius: f64,
+    to_shapes: &mut [u32],
+    to: &mut [f64],
+    answer: &mut Answer,
+) -> u32 {
+    let (words, words_len) = (to_shapes.as_mut_ptr(), to_shapes.len());
+    let (to, to_len) = (to.as_mut_ptr(), to.len());
+    unsafe { outline_rect(ax, ay, bx, by, radius, words, words_len, to, to_len, answer) }
+}
+
+pub fn ellipse(
+    [ax, ay, bx, by]: [f64; 4],
+    to_shapes: &mut [u32],
+    to: &mut [f64],
+    answer: &mut Answer,
+) -> u32 {
+    let (words, words_len) = (to_shapes.as_mut_ptr(), to_shapes.len());
+    let (to, to_len) = (to.as_mut_ptr(), to.len());
+    unsafe { outline_ellipse(ax, ay, bx, by, words, words_len, to, to_len, answer) }
+}
+
+pub fn line(
+    [ax, ay, bx, by]: [f64; 4],
+    to_shapes: &mut [u32],
+    to: &mut [f64],
+    answer: &mut Answer,
+) -> u32 {
+    let (words, words_len) = (to_shapes.as_mut_ptr(), to_shapes.len());
+    let (to, to_len) = (to.as_mut_ptr(), to.len());
+    unsafe { outline_line(ax, ay, bx, by, words, words_len, to, to_len, answer) }
+}
+
+pub fn auto_smooth(
+    shapes: &[u32],
+    anchors: &mut [f64],
+    s: usize,
+    k: usize,
+    answer: &mut Answer,
+) -> u32 {
+    let (words, words_len) = (shapes.as_ptr(), shapes.len());
+    let (anchors, anchors_len) = (anchors.as_mut_ptr(), anchors.len());
+    unsafe { outline_auto_smooth(words, words_len, anchors, anchors_len, s, k, answer) }
 }

@@ -4,6 +4,7 @@
 mod anchors;
 mod angles;
 mod bench;
+mod bends;
 mod branches;
 mod cache;
 mod caches;
@@ -34,6 +35,7 @@ mod report;
 mod root;
 mod samples;
 mod selftest;
+mod shapes;
 mod sizes;
 mod stand_ins;
 mod text;
@@ -127,6 +129,11 @@ fn run(seed: u64, cases: u64) -> ExitCode {
     for call in &cubics::CALLS {
         tell(call.run(cases, &mut random));
     }
+    for shape in &shapes::SHAPES {
+        tell(shapes::run(shape, edits(cases), &mut random));
+    }
+    tell(bends::transform(edits(cases), &mut random));
+    tell(bends::auto_smooth(edits(cases), &mut random));
     tell(cuts::run(drawings(cases), &mut random));
     tell(cache::build(drawings(cases), &mut random));
     tell(cache::assemble(drawings(cases), &mut random));

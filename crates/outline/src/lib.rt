@@ -11,11 +11,13 @@ use cubic_calls::Number;
 use cubic_calls::Point;
 use geom::P;
 
+mod bends;
 mod caches;
 mod corners;
 mod edits;
 mod hits;
 mod paths;
+mod shapes;
 
 // The control points of a cubic, from eight numbers, x before y.
 fn curve(c: &[f64; 8]) -> [P; 4]

@@ -1,5 +1,7 @@
 //! The library's speed beside the original's, as ratios from one run: what else the machine does
 //! slows both, since their rounds alternate.
+
+mod bends;
 mod cuts;
 mod hits;
 mod points;
@@ -27,6 +29,7 @@ type Calls<'a> = Box<dyn FnMut(Range<usize>) + 'a>;
 
 pub fn run(random: &mut Random) {
     measure(points::Inputs::draw(random).races());
+    measure(bends::Inputs::draw(random).races());
     measure(cuts::Inputs::draw(random).races());
     measure(text::Inputs::draw(random).races());
     measure(hits::Inputs::draw(random).races());

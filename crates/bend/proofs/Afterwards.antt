@@ -1,0 +1,97 @@
+-- A path of which one or two anchors were put anew: it is the table of its anchors afterwards, and 9 asks for those that are new. Assumes nothing.
+use mathlib.Core.Path.{_≡_, refl, sym, ap, _∙_}
+use mathlib.Core.Logic.{inl, inr, ⊎-elim}
+use mathlib.Core.Bool.{Bool, true, false, _&&_}
+use mathlib.Core.List.{List}
+use Prim.Native.Nat.{ℕ, _+_, _*_, _/_, _%_, _≤_, _<_}
+use native.Mathlib.Omega.{arith}
+use lib.ListN.{length}
+use lib.Ieee.{Float, nan}
+use Rattle.views.specs.View.{entry, tabulate}
+use Rattle.views.specs.Search.{all}
+use Rattle.views.proofs.Laws.{same, order, length-tabulate, at-tabulate, as-overwrite}
+use Rattle.views.proofs.Searches.{all-cong}
+use Rattle.real.specs.Limit.{inLimit}
+use Rattle.refusal.specs.Order.{passes, judge, accepted, refused}
+use Rattle.path.specs.declared.anchor.Anchor.{Anchor}
+use Rattle.path.specs.Flat.{anchorAt, numbers, anchorNumbers, putAnchor, nth, listed}
+use Rattle.path.specs.Limit.{anchorIn}
+use Rattle.path.proofs.Limits.{GoodBelow}
+use Rattle.path.proofs.Places.{anchor-number, numbers-at, length-put, put-out, at-put, at-put-other}
+use Rattle.call.specs.Tests.{outlineIn, outlineLimit}
+use Rattle.call.proofs.Openings.{places-fail, places-pass}
+use Rattle.transform.proofs.Laid.{listed-table}
+use Rattle.bend.specs.Edits.{pointIn, anchorWithin, lastVerdict}
+
+-- ---- an anchor within the limit, by its points and by its numbers
+six : (a b c d e f : Bool) → (a && (b && (c && (d && (e && (f && true)))))) ≡ ((a && b) && ((c && d) && (e && f)))
+six false b c d e f = refl
+six true false c d e f = refl
+six true true false d e f = refl
+six true true true false e f = refl
+six true true true true false f = refl
+six true true true true true false = refl
+six true true true true true true = refl
+
+within-all : (a : Anchor) → all (λ i. inLimit (entry (numbers a) i)) 6 ≡ anchorWithin a
+unfolding all numbers anchorWithin pointIn
+within-all a =
+    six (inLimit (a .p .x)) (inLimit (a .p .y)) (inLimit (a .«h_in» .x)) (inLimit (a .«h_in» .y)) (inLimit (a .«h_out» .x)) (inLimit (a .«h_out» .y))
+
+pub given-within : (xs : List Float) (k : ℕ) → anchorIn xs k ≡ anchorWithin (anchorAt xs k)
+unfolding anchorIn
+given-within xs k =
+    all-cong _ _ 6 (λ i l. ap inLimit (sym (numbers-at xs (k * 6 + i)) ∙ anchor-number (anchorAt xs) k i l)) ∙ within-all (anchorAt xs k)
+
+-- ---- n anchors f 0, f 1, ..
+module _ (n : ℕ) (f : ℕ → Anchor) where
+  made-within : (k : ℕ) → k < n → outlineIn (tabulate n f) k ≡ anchorWithin (f k)
+  unfolding outlineIn nth
+  made-within k l = ap (λ a. all (λ i. inLimit (entry (numbers a) i)) 6) (at-tabulate _ n f k l) ∙ within-all (f k)
+
+  pub made-bad : (k : ℕ) → k < n → anchorWithin (f k) ≡ false → ((q : ℕ) → q < k → anchorWithin (f q) ≡ true) → lastVerdict (tabulate n f) ≡ refused 9 k
+  unfolding lastVerdict outlineLimit judge
+  made-bad k l e below =
+      rw (length-tabulate n f, places-fail (outlineIn (tabulate n f)) n passes k (record { place = l; bad = made-within k l ∙ e; below = λ q h. made-within q (omega arith) ∙ below q h }))
+
+  pub made-good : ((q : ℕ) → q < n → anchorWithin (f q) ≡ true) → lastVerdict (tabulate n f) ≡ accepted
+  unfolding lastVerdict outlineLimit judge
+  made-good h = rw (length-tabulate n f, places-pass (outlineIn (tabulate n f)) n passes (λ q l. made-within q l ∙ h q l))
+
+  -- a list that has them in front, the rest as in xs
+  pub by-places : (xs ys : List Float) → length ys ≡ length xs → ((k : ℕ) → k < n → anchorAt ys k ≡ f k) → ((j : ℕ) → n * 6 ≤ j → entry ys j ≡ entry xs j)
+      → ys ≡ listed (tabulate n f) xs
+  unfolding anchorNumbers
+  by-places xs ys e at past = as-overwrite nan ys xs (n * 6) (anchorNumbers f) e number past ∙ listed-table n f xs
+    where
+      number : (j : ℕ) → j < n * 6 → entry ys j ≡ anchorNumbers f j
+      number j l =
+          let h : j / 6 < n = omega arith in
+          sym (numbers-at ys j) ∙ ap (λ a. entry (numbers a) (j % 6)) (at (j / 6) h)
+
+-- ---- a path of n anchors, all within the limit
+module _ (xs : List Float) (n : ℕ) (f : ℕ → Anchor) (good : GoodBelow (anchorIn xs) n) (long : n * 6 ≤ length xs) where
+  kept : (q : ℕ) → q < n → f q ≡ anchorAt xs q → anchorWithin (f q) ≡ true
+  kept q l e = ap anchorWithin e ∙ sym (given-within xs q) ∙ good q l
+
+  -- no anchor anew
+  module _ (all-kept : (q : ℕ) → f q ≡ anchorAt xs q) where
+    pub none-good : lastVerdict (tabulate n f) ≡ accepted
+    none-good = made-good n f (λ q l. kept q l (all-kept q))
+
+    pub none-put : xs ≡ listed (tabulate n f) xs
+    none-put = by-places n f xs xs refl (λ k l. sym (all-kept k)) (λ j l. refl)
+
+  -- one anchor anew
+  module _ (k : ℕ) (a : Anchor) (inside : k < n) (new : f k ≡ a) (others : (q : ℕ) → (q ≡ k → ⊥) → f q ≡ anchorAt xs q) where
+    pub one-bad : anchorWithin a ≡ false → lastVerdict (tabulate n f) ≡ refused 9 k
+    one-bad e = made-bad n f k inside (ap anchorWithin new ∙ e) (λ q l. kept q (omega arith) (others q (λ p. omega arith)))
+
+    pub one-good : anchorWithin a ≡ true → lastVerdict (tabulate n f) ≡ accepted
+    one-good e = made-good n f (λ q l. ⊎-elim (λ p. ap (λ z. anchorWithin (f z)) p ∙ ap anchorWithin new ∙ e) (λ ne. kept q l (others q ne)) (same q k))
+
+    pub one-put : putAnchor xs k a ≡ listed (tabulate n f) xs
+    one-put = by-places n f xs (putAnchor xs k a) (length-put xs k a) at (λ j l. put-out xs k a j (inr (omega arith)))
+      where
+        at : (q : ℕ) → q < n → anchorAt (putAnchor xs k a) q ≡ f q
+        at q l = ⊎-elim (λ p. rw p (at-put xs k a (omega arith) ∙ sym new)) (λ ne. at-put-other xs k a q ne ∙ sym (others q ne)) (same q k)

@@ -1,0 +1,3 @@
+pub mod Afterwards
+pub mod Outcomes
+pub mod Smooths

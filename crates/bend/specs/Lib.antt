@@ -1,0 +1,3 @@
+pub mod Smoothed
+pub mod Bent
+pub mod Edits

@@ -1,0 +1,5 @@
+// A path under an affine map, after 000's `transform`.
+mod calls;
+mod mapping;
+
+pub use calls::transform;

@@ -1,0 +1,337 @@
+//! The calls that move the points of a path.
+
+use crate::call::{
+    outcome, ACCEPTS, REFUSES_5, REFUSES_5_SHORT, REFUSES_6, REFUSES_7, REFUSES_7_SHORT, REFUSES_8,
+    REFUSES_9, REFUSES_9_SHORT,
+};
+use crate::case::Room;
+use crate::compare::{mismatch, Expected};
+use crate::damage::{far_more, lengthen, one_more, put_outside, shorten, wrap};
+use crate::family::{self, Family, Group};
+use crate::ffi;
+use crate::guard::{Entry, Lent};
+use crate::lents::Lents;
+use crate::original::bezier::{self, BezPath};
+use crate::original::geom::Affine;
+use crate::outlines;
+use crate::parameters::ROOM;
+use crate::paths::{Path, CLOSED, SIX};
+use crate::random::Random;
+use crate::refusal::{
+    in_limit, ACCEPTED, ARGUMENTS, LISTS, MOST_ANCHORS, OUTPUT, REFERENCE, RESULT,
+};
+use crate::report::Tally;
+use crate::values::{edge, exponent, integer, outside, uniform};
+
+type Damage = fn(&mut Path, &mut Random);
+
+/// What is done to a path's lists before a call.
+static WHOLE: Group<Damage> = Group {
+    name: "lists",
+    ways: &[
+        ("exact", |_, _| {}),
+        // What stands there breaks every rule, and is not read.
+        ("longer", |path, random| lengthen(&mut path.numbers, random)),
+    ],
+};
+
+static DAMAGED: Group<Damage> = Group {
+    name: "lists",
+    ways: &[
+        ("a number short", |path, _| {
+            path.numbers.pop();
+        }),
+        ("short", |path, random| shorten(&mut path.numbers, random)),
+        ("an anchor more", |path, random| one_more(&mut path.shapes, random)),
+        ("far more anchors", |path, random| far_more(&mut path.shapes, random)),
+        ("counts that wrap", |path, random| wrap(&mut path.shapes, random)),
+    ],
+};
+
+const OUTSIDE: [Family; 2] = [("outside", "a number"), ("outside", "an argument")];
+
+const PLACES: [Family; 5] = [
+    ("refused", "5 at anchor 0"),
+    ("refused", "5 at a later one"),
+    ("refused", "5 at the count"),
+    ("refused", "9 at anchor 0"),
+    ("refused", "9 at a later one"),
+];
+
+fn draw(random: &mut Random, families: &mut Vec<Family>) -> Path {
+    let path = outlines::draw(MOST_ANCHORS, random, families);
+    let mut path = Path::of(&path);
+    let lists = if random.one_in(8) { &DAMAGED } else { &WHOLE };
+    lists.draw(random, families)(&mut path, random);
+    if random.one_in(12) {
+        put_outside(&mut path.numbers, random);
+        families.push(OUTSIDE[0]);
+    }
+    path
+}
+
+/// Document 01's refusals 7 and 5.
+fn refused(path: &Path, arguments: &[f64]) -> Option<Expected> {
+    if !path.is_readable(MOST_ANCHORS) {
+        return Some(Expected::refused(LISTS));
+    }
+    if let Some(place) = path.first_outside() {
+        return Some(Expected::refused_at(place, ARGUMENTS));
+    }
+    if !arguments.iter().all(|&x| in_limit(x)) {
+        return Some(Expected::refused_at(path.anchors() as usize, ARGUMENTS));
+    }
+    None
+}
+
+fn note_place(path: &Path, expected: &Expected, families: &mut Vec<Family>) {
+    let place = expected.answer[0];
+    families.push(match expected.refusal {
+        ARGUMENTS if place == path.anchors() => PLACES[2],
+        ARGUMENTS => PLACES[place.min(1) as usize],
+        RESULT => PLACES[3 + place.min(1) as usize],
+        _ => return,
+    });
+}
+
+static MAPS: Group<fn(&mut Random) -> Affine> = Group {
+    name: "map",
+    ways: &[
+        ("identity", |_| [1.0, 0.0, 0.0, 1.0, 0.0, 0.0]),
+        ("shift", |random| [1.0, 0.0, 0.0, 1.0, integer(random), uniform(random)]),
+        ("turn", |random| {
+            let (cos, sin) = random.angle();
+            [cos, sin, -sin, cos, integer(random), integer(random)]
+        }),
+        ("small numbers", |random| std::array::from_fn(|_| random.signed_unit())),
+        ("singular", |random| {
+            let [a, b] = [integer(random), integer(random)];
+            [a, b, 2.0 * a, 2.0 * b, integer(random), integer(random)]
+        }),
+        ("zero", |random| std::array::from_fn(|_| random.signed(0.0))),
+        ("huge", |random| std::array::from_fn(|_| uniform(random))),
+        ("exponents", |random| std::array::from_fn(|_| exponent(random))),
+        ("edges", |random| std::array::from_fn(|_| edge(random))),
+    ],
+};
+
+pub fn transform(cases: u64, random: &mut Random) -> Tally {
+    let outcomes = vec![
+        ACCEPTS,
+        REFUSES_7,
+        REFUSES_7_SHORT,
+        REFUSES_5,
+        REFUSES_5_SHORT,
+        REFUSES_9,
+        REFUSES_9_SHORT,
+        REFUSES_8,
+    ];
+    let families = [
+        outcomes,
+        PLACES.to_vec(),
+        OUTSIDE.to_vec(),
+        MAPS.families(),
+        outlines::families(),
+        WHOLE.families(),
+        DAMAGED.families(),
+        ROOM.families(),
+    ];
+    let mut tally = Tally::new("transform", families.concat());
+    for _ in 0..cases {
+        compare_transform(&mut tally, random);
+    }
+    tally
+}
+
+fn compare_transform(tally: &mut Tally, random: &mut Random) {
+    let mut families = Vec::new();
+    let path = draw(random, &mut families);
+    let mut m = MAPS.draw(random, &mut families)(random);
+    if random.one_in(12) {
+        m[random.below(6) as usize] = outside(random);
+        families.push(OUTSIDE[1]);
+    }
+    let refused = refused(&path, &m);
+    let needs = match refused {
+        None => [path.shapes.len(), SIX * path.anchors() as usize],
+        // What stands in for a result that there is not.
+        Some(_) => [1 + path.shapes.len().min(32), 24],
+    };
+    let rooms = needs.map(|need| Room::draw(need, random, &mut families));
+    let expected = refused.unwrap_or_else(|| mapped(&path, m, &rooms));
+    let short = rooms.iter().any(Room::is_short);
+    families.push(outcome(&expected, short));
+    note_place(&path, &expected, &mut families);
+    tally.count(1, &families);
+    let [words, numbers] = &rooms;
+    let mut lents = Lents {
+        given: vec![
+            Lent::holding_words(&path.shapes, random),
+            Lent::holding(&path.numbers, random),
+            Lent::holding(&m, random),
+        ],
+        results: vec![
+            Lent::foreign(Entry::Word, words.lent, random),
+            Lent::foreign(Entry::Number, numbers.lent, random),
+        ],
+        answer: Lent::for_answer(random),
+    };
+    let ([shapes, anchors, map], [to_shapes, to]) = (&mut lents.given[..], &mut lents.results[..])
+    else {
+        unreachable!("three lists are given, and two buffers lent")
+    };
+    let refusal = ffi::transform(
+        shapes.words(),
+        anchors.numbers(),
+        map.array(),
+        to_shapes.words(),
+        to.numbers(),
+        lents.answer.answer(),
+    );
+    if let Some(wrong) = mismatch(&expected, refusal, &lents) {
+        tally.fail(path.size(), || {
+            let families = family::list(&families);
+            format!("    {families}\n{path}\n    {m:?}, {words}, {numbers}\n    {wrong}")
+        });
+    }
+}
+
+/// 9 and 8, else the original's path.
+fn mapped(path: &Path, m: Affine, rooms: &[Room; 2]) -> Expected {
+    let made = Path::of(&bezier::transform(&path.original(), m));
+    if let Some(place) = made.first_outside() {
+        return Expected::refused_at(place, RESULT);
+    }
+    if rooms.iter().any(Room::is_short) {
+        return Expected::refused(OUTPUT);
+    }
+    Expected {
+        refusal: ACCEPTED,
+        answer: [0, made.anchors(), made.shapes.len() as u64, 0],
+        written: vec![
+            made.shapes.iter().copied().map(u64::from).collect(),
+            made.numbers.iter().map(|x| x.to_bits()).collect(),
+        ],
+    }
+}
+
+/// Which subpath and anchor an edit names: mostly ones that there are.
+type Naming = fn(&Path, &mut Random) -> [usize; 2];
+
+static NAMES: Group<Naming> = Group {
+    name: "anchor named",
+    ways: &[
+        ("any", |path, random| {
+            let s = random.below(path.shapes.len() as u64 + 1) as usize;
+            let count = count_of(path, s);
+            [s, random.below(u64::from(count) + 1) as usize]
+        }),
+        ("the first", |path, random| {
+            [random.below(path.shapes.len().max(1) as u64) as usize, 0]
+        }),
+        ("the last", |path, random| {
+            let s = random.below(path.shapes.len().max(1) as u64) as usize;
+            [s, count_of(path, s).saturating_sub(1) as usize]
+        }),
+        ("index 1", |path, random| {
+            [random.below(path.shapes.len().max(1) as u64) as usize, 1]
+        }),
+        ("far off", |_, random| [random.bits() as usize, random.bits() as usize]),
+    ],
+};
+
+fn count_of(path: &Path, s: usize) -> u32 {
+    path.shapes.get(s).map_or(0, |word| (word & !CLOSED).min(600))
+}
+
+/// What the original's edit meets.
+const EDITED: [Family; 5] = [
+    ("edited", "the only anchor"),
+    ("edited", "an open end"),
+    ("edited", "between two"),
+    ("edited", "round the end"),
+    ("edited", "nothing changed"),
+];
+
+pub fn auto_smooth(cases: u64, random: &mut Random) -> Tally {
+    let families = [
+        vec![ACCEPTS, REFUSES_7, REFUSES_5, REFUSES_6, REFUSES_9],
+        vec![PLACES[0], PLACES[1], PLACES[3], PLACES[4], OUTSIDE[0]],
+        EDITED.to_vec(),
+        NAMES.families(),
+        outlines::families(),
+        WHOLE.families(),
+        DAMAGED.families(),
+    ];
+    let mut tally = Tally::new("auto_smooth", families.concat());
+    for _ in 0..cases {
+        compare_smooth(&mut tally, random);
+    }
+    tally
+}
+
+fn compare_smooth(tally: &mut Tally, random: &mut Random) {
+    let mut families = Vec::new();
+    let path = draw(random, &mut families);
+    let [s, k] = NAMES.draw(random, &mut families)(&path, random);
+    let expected = match refused(&path, &[]) {
+        Some(refused) => refused,
+        None if k >= count_of(&path, s) as usize => Expected::refused(REFERENCE),
+        None => {
+            let mut edited = path.original();
+            bezier::auto_smooth(&mut edited[s], k);
+            note_smooth(&path, s, k, &edited, &mut families);
+            edited_in_place(&edited)
+        }
+    };
+    families.push(outcome(&expected, false));
+    note_place(&path, &expected, &mut families);
+    tally.count(1, &families);
+    let mut lents = Lents {
+        given: vec![Lent::holding_words(&path.shapes, random)],
+        results: vec![Lent::holding(&path.numbers, random)],
+        answer: Lent::for_answer(random),
+    };
+    let refusal = ffi::auto_smooth(
+        lents.given[0].words(),
+        lents.results[0].numbers(),
+        s,
+        k,
+        lents.answer.answer(),
+    );
+    if let Some(wrong) = mismatch(&expected, refusal, &lents) {
+        tally.fail(path.size(), || {
+            let families = family::list(&families);
+            format!("    {families}\n{path}\n    subpath {s}, anchor {k}\n    {wrong}")
+        });
+    }
+}
+
+fn note_smooth(path: &Path, s: usize, k: usize, edited: &BezPath, families: &mut Vec<Family>) {
+    let (n, closed) = (edited[s].anchors.len(), edited[s].closed);
+    let end = k == 0 || k + 1 == n;
+    families.push(match (n, end, closed) {
+        (1, _, _) => EDITED[0],
+        (_, true, false) => EDITED[1],
+        (_, false, _) => EDITED[2],
+        (_, true, true) => EDITED[3],
+    });
+    let before = path.numbers.iter().map(|x| x.to_bits());
+    let after = Path::of(edited).numbers;
+    if after.iter().map(|x| x.to_bits()).eq(before.take(after.len())) {
+        families.push(EDITED[4]);
+    }
+}
+
+/// 9, else the path as the original leaves it.
+fn edited_in_place(edited: &BezPath) -> Expected {
+    let made = Path::of(edited);
+    if let Some(place) = made.first_outside() {
+        return Expected::refused_at(place, RESULT);
+    }
+    Expected {
+        refusal: ACCEPTED,
+        answer: [0, made.anchors(), made.shapes.len() as u64, 0],
+        written: vec![made.numbers.iter().map(|x| x.to_bits()).collect()],
+    }
+}
