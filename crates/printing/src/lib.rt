@@ -1,7 +1,0 @@
-// What the program `patch` prints for a job: every decision, from the job's bytes to the line's.
-mod drawing_line;
-mod job_line;
-mod path_line;
-mod refused;
-
-pub use job_line::print;
