@@ -143,6 +143,13 @@ uint32_t outline_transform(const uint32_t *shapes, size_t shapes_len, const doub
 uint32_t outline_auto_smooth(const uint32_t *shapes, size_t shapes_len, double *anchors, size_t anchors_len,
                              size_t s, size_t k, outline_answer *answer);
 
+/* The segment from anchor a of subpath s to the next, bent in place so that its point at t, clamped to 0.08..0.92, moves by (dx, dy);
+ * where keep_smooth is not 0, smooth anchors stay smooth. A subpath of one anchor stays as it is. At most 32 subpaths and 512
+ * anchors. Refuses 7, 5 (t, dx, dy at the anchor count), 6, 9 at the lower place that breaks the limit. */
+uint32_t outline_bend_segment(const uint32_t *shapes, size_t shapes_len, double *anchors, size_t anchors_len,
+                              size_t s, size_t a, double t, double dx, double dy, uint32_t keep_smooth,
+                              outline_answer *answer);
+
 /* The rectangle of which a and b are opposite corners, closed: 4 anchors, or 8 where the radius, at most half of either side, is
  * not below 1e-9. subpaths is 1, count the anchors. Refuses 5, 9, 8. */
 uint32_t outline_rect(double ax, double ay, double bx, double by, double radius, uint32_t *to_shapes, size_t to_shapes_len,

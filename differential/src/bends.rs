@@ -12,7 +12,7 @@ use crate::ffi;
 use crate::guard::{Entry, Lent};
 use crate::lents::Lents;
 use crate::original::bezier::{self, BezPath};
-use crate::original::geom::Affine;
+use crate::original::geom::{Affine, P};
 use crate::outlines;
 use crate::parameters::ROOM;
 use crate::paths::{Path, CLOSED, SIX};
@@ -21,7 +21,7 @@ use crate::refusal::{
     in_limit, ACCEPTED, ARGUMENTS, LISTS, MOST_ANCHORS, OUTPUT, REFERENCE, RESULT,
 };
 use crate::report::Tally;
-use crate::values::{edge, exponent, integer, outside, uniform};
+use crate::values::{edge, exponent, integer, near, outside, uniform, Numbers};
 
 type Damage = fn(&mut Path, &mut Random);
 
@@ -333,5 +333,146 @@ fn edited_in_place(edited: &BezPath) -> Expected {
         refusal: ACCEPTED,
         answer: [0, made.anchors(), made.shapes.len() as u64, 0],
         written: vec![made.numbers.iter().map(|x| x.to_bits()).collect()],
+    }
+}
+
+static PARAMETER: Group<Numbers> = Group {
+    name: "t",
+    ways: &[
+        ("between", |random| 0.08 + 0.84 * random.unit()),
+        ("below 0.08", |random| 0.08 * random.unit()),
+        ("above 0.92", |random| 0.92 + 0.08 * random.unit()),
+        ("near 0.08", |random| near(0.08, random)),
+        ("near 0.92", |random| near(0.92, random)),
+        ("beyond", |random| 3.0 * random.signed_unit()),
+        ("edges", edge),
+    ],
+};
+
+static DELTA: Group<Numbers> = Group {
+    name: "delta",
+    ways: &[
+        ("integers", integer),
+        ("zero", |random| random.signed(0.0)),
+        ("small", |random| random.signed_unit()),
+        ("uniform", uniform),
+        ("exponents", exponent),
+        ("edges", edge),
+    ],
+};
+
+/// `keep_smooth`, as C has it.
+static KEEP: Group<fn(&mut Random) -> u32> = Group {
+    name: "keep_smooth",
+    ways: &[
+        ("0", |_| 0),
+        ("1", |_| 1),
+        ("more", |random| (random.bits() as u32).max(2)),
+    ],
+};
+
+/// What the original's bend meets.
+const BENT: [Family; 6] = [
+    ("bent", "the only anchor"),
+    ("bent", "within"),
+    ("bent", "the closing segment"),
+    ("bent", "straight"),
+    ("bent", "a smooth end, kept"),
+    ("bent", "a smooth end, not kept"),
+];
+
+pub fn bend_segment(cases: u64, random: &mut Random) -> Tally {
+    let families = [
+        vec![ACCEPTS, REFUSES_7, REFUSES_5, REFUSES_6, REFUSES_9],
+        PLACES.to_vec(),
+        OUTSIDE.to_vec(),
+        BENT.to_vec(),
+        NAMES.families(),
+        PARAMETER.families(),
+        DELTA.families(),
+        KEEP.families(),
+        outlines::families(),
+        WHOLE.families(),
+        DAMAGED.families(),
+    ];
+    let mut tally = Tally::new("bend_segment", families.concat());
+    for _ in 0..cases {
+        compare_bend(&mut tally, random);
+    }
+    tally
+}
+
+fn compare_bend(tally: &mut Tally, random: &mut Random) {
+    let mut families = Vec::new();
+    let path = draw(random, &mut families);
+    let [s, a] = NAMES.draw(random, &mut families)(&path, random);
+    let number = *DELTA.draw(random, &mut families);
+    let mut pull = [
+        PARAMETER.draw(random, &mut families)(random),
+        number(random),
+        number(random),
+    ];
+    let keep = KEEP.draw(random, &mut families)(random);
+    if random.one_in(12) {
+        pull[random.below(3) as usize] = outside(random);
+        families.push(OUTSIDE[1]);
+    }
+    let expected = match refused(&path, &pull) {
+        Some(refused) => refused,
+        None if !is_known(&path, s, a) => Expected::refused(REFERENCE),
+        None => {
+            let mut edited = path.original();
+            note_bend(&edited, s, a, keep != 0, &mut families);
+            let [t, x, y] = pull;
+            bezier::bend_segment(&mut edited[s], a, t, P::new(x, y), keep != 0);
+            edited_in_place(&edited)
+        }
+    };
+    families.push(outcome(&expected, false));
+    note_place(&path, &expected, &mut families);
+    tally.count(1, &families);
+    let mut lents = Lents {
+        given: vec![Lent::holding_words(&path.shapes, random)],
+        results: vec![Lent::holding(&path.numbers, random)],
+        answer: Lent::for_answer(random),
+    };
+    let refusal = ffi::bend_segment(
+        lents.given[0].words(),
+        lents.results[0].numbers(),
+        [s, a],
+        pull,
+        keep,
+        lents.answer.answer(),
+    );
+    if let Some(wrong) = mismatch(&expected, refusal, &lents) {
+        tally.fail(path.size(), || {
+            let families = family::list(&families);
+            format!("    {families}\n{path}\n    subpath {s}, anchor {a}, {pull:?}, {keep}\n    {wrong}")
+        });
+    }
+}
+
+/// By document 01: a start of `segments` from 2 anchors up, index 0 of one anchor.
+fn is_known(path: &Path, s: usize, a: usize) -> bool {
+    match count_of(path, s) {
+        0 => false,
+        1 => a == 0,
+        _ => path.original()[s].segments().iter().any(|&(from, _)| from == a),
+    }
+}
+
+fn note_bend(path: &BezPath, s: usize, a: usize, keep: bool, families: &mut Vec<Family>) {
+    let (anchors, n) = (&path[s].anchors, path[s].anchors.len());
+    if n < 2 {
+        families.push(BENT[0]);
+        return;
+    }
+    let b = (a + 1) % n;
+    families.push(BENT[if b == 0 { 2 } else { 1 }]);
+    if anchors[a].h_out == anchors[a].p && anchors[b].h_in == anchors[b].p {
+        families.push(BENT[3]);
+    }
+    if anchors[a].is_smooth() || anchors[b].is_smooth() {
+        families.push(BENT[if keep { 4 } else { 5 }]);
     }
 }

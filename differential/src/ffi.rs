@@ -221,6 +221,20 @@ extern "C" {
         to_len: usize,
         answer: *mut Answer,
     ) -> u32;
+
+    fn outline_bend_segment(
+        shapes: *const u32,
+        shapes_len: usize,
+        anchors: *mut f64,
+        anchors_len: usize,
+        s: usize,
+        a: usize,
+        t: f64,
+        dx: f64,
+        dy: f64,
+        keep_smooth: u32,
+        answer: *mut Answer,
+    ) -> u32;
 }
 
 pub fn root(x: f64) -> f64 {
@@ -527,4 +541,21 @@ pub fn auto_smooth(
     let (words, words_len) = (shapes.as_ptr(), shapes.len());
     let (anchors, anchors_len) = (anchors.as_mut_ptr(), anchors.len());
     unsafe { outline_auto_smooth(words, words_len, anchors, anchors_len, s, k, answer) }
+}
+
+pub fn bend_segment(
+    shapes: &[u32],
+    anchors: &mut [f64],
+    [s, a]: [usize; 2],
+    [t, dx, dy]: [f64; 3],
+    keep_smooth: u32,
+    answer: &mut Answer,
+) -> u32 {
+    let (words, words_len) = (shapes.as_ptr(), shapes.len());
+    let (numbers, len) = (anchors.as_mut_ptr(), anchors.len());
+    unsafe {
+        outline_bend_segment(
+            words, words_len, numbers, len, s, a, t, dx, dy, keep_smooth, answer,
+        )
+    }
 }

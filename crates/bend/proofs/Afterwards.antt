@@ -1,12 +1,14 @@
 -- A path of which one or two anchors were put anew: it is the table of its anchors afterwards, and 9 asks for those that are new. Assumes nothing.
 use mathlib.Core.Path.{_≡_, refl, sym, ap, _∙_}
 use mathlib.Core.Logic.{inl, inr, ⊎-elim}
-use mathlib.Core.Bool.{Bool, true, false, _&&_}
+use mathlib.Core.Bool.{Bool, true, false, _&&_, cond}
 use mathlib.Core.List.{List}
 use Prim.Native.Nat.{ℕ, _+_, _*_, _/_, _%_, _≤_, _<_}
 use native.Mathlib.Omega.{arith}
 use lib.ListN.{length}
+use lib.Dec.{ltb}
 use lib.Ieee.{Float, nan}
+use borrow.Author.Tests.{ltb-true, ltb-false}
 use Rattle.views.specs.View.{entry, tabulate}
 use Rattle.views.specs.Search.{all}
 use Rattle.views.proofs.Laws.{same, order, length-tabulate, at-tabulate, as-overwrite}
@@ -21,7 +23,8 @@ use Rattle.path.proofs.Places.{anchor-number, numbers-at, length-put, put-out, 
 use Rattle.call.specs.Tests.{outlineIn, outlineLimit}
 use Rattle.call.proofs.Openings.{places-fail, places-pass}
 use Rattle.transform.proofs.Laid.{listed-table}
-use Rattle.bend.specs.Edits.{pointIn, anchorWithin, lastVerdict}
+use Rattle.path.specs.declared.limit.Found.the-variants.{At, Nothing}
+use Rattle.bend.specs.Edits.{pointIn, anchorWithin, lastVerdict, firstOut}
 
 -- ---- an anchor within the limit, by its points and by its numbers
 six : (a b c d e f : Bool) → (a && (b && (c && (d && (e && (f && true)))))) ≡ ((a && b) && ((c && d) && (e && f)))
@@ -95,3 +98,65 @@ module _ (xs : List Float) (n : ℕ) (f : ℕ → Anchor) (good : GoodBelow (anc
       where
         at : (q : ℕ) → q < n → anchorAt (putAnchor xs k a) q ≡ f q
         at q l = ⊎-elim (λ p. rw p (at-put xs k a (omega arith) ∙ sym new)) (λ ne. at-put-other xs k a q ne ∙ sym (others q ne)) (same q k)
+
+  -- two anchors anew
+  module _ (i j : ℕ) (a b : Anchor) (apart : i ≡ j → ⊥) (i-inside : i < n) (j-inside : j < n) (new-i : f i ≡ a) (new-j : f j ≡ b)
+      (others : (q : ℕ) → (q ≡ i → ⊥) → (q ≡ j → ⊥) → f q ≡ anchorAt xs q) where
+    within-below : (m : ℕ) → (i < m → anchorWithin a ≡ true) → (j < m → anchorWithin b ≡ true) → (q : ℕ) → q < m → q < n → anchorWithin (f q) ≡ true
+    within-below m wa wb q l h =
+        ⊎-elim
+        (λ e. ap (λ z. anchorWithin (f z)) e ∙ ap anchorWithin new-i ∙ wa (omega arith))
+        (λ ni. ⊎-elim (λ e. ap (λ z. anchorWithin (f z)) e ∙ ap anchorWithin new-j ∙ wb (omega arith)) (λ nj. kept q h (others q ni nj)) (same q j))
+        (same q i)
+
+    i-bad : anchorWithin a ≡ false → (j < i → anchorWithin b ≡ true) → lastVerdict (tabulate n f) ≡ refused 9 i
+    i-bad e wb = made-bad n f i i-inside (ap anchorWithin new-i ∙ e) (λ q l. within-below i (λ h. absurd (omega arith)) wb q l (omega arith))
+
+    j-bad : anchorWithin b ≡ false → (i < j → anchorWithin a ≡ true) → lastVerdict (tabulate n f) ≡ refused 9 j
+    j-bad e wa = made-bad n f j j-inside (ap anchorWithin new-j ∙ e) (λ q l. within-below j wa (λ h. absurd (omega arith)) q l (omega arith))
+
+    different : (place : ℕ) → Nothing ≡ At place → ⊥
+    different place e = let z : _≡_ {A = ℕ} 0 1 = cc in omega arith
+
+    same-place : (k place : ℕ) → At k ≡ At place → k ≡ place
+    same-place k place e = cc
+
+    pub two-bad : (place : ℕ) → firstOut i a j b ≡ At place → lastVerdict (tabulate n f) ≡ refused 9 place
+    unfolding firstOut
+    two-bad place = go (anchorWithin a) (anchorWithin b) (ltb i j) refl refl refl
+      where
+        go : (x y z : Bool) → anchorWithin a ≡ x → anchorWithin b ≡ y → ltb i j ≡ z
+            → cond x (cond y Nothing (At j)) (cond z (At i) (cond y (At i) (At j))) ≡ At place → lastVerdict (tabulate n f) ≡ refused 9 place
+        go true true z ea eb el e = absurd (different place e)
+        go true false z ea eb el e = j-bad eb (λ h. ea) ∙ ap (refused 9) (same-place j place e)
+        go false y true ea eb el e = let l = ltb-true i j el in i-bad ea (λ h. absurd (omega arith)) ∙ ap (refused 9) (same-place i place e)
+        go false true false ea eb el e = i-bad ea (λ h. eb) ∙ ap (refused 9) (same-place i place e)
+        go false false false ea eb el e = let l = ltb-false i j el in j-bad eb (λ h. absurd (omega arith)) ∙ ap (refused 9) (same-place j place e)
+
+    pub two-good : firstOut i a j b ≡ Nothing → lastVerdict (tabulate n f) ≡ accepted
+    unfolding firstOut
+    two-good = go (anchorWithin a) (anchorWithin b) (ltb i j) refl refl
+      where
+        go : (x y z : Bool) → anchorWithin a ≡ x → anchorWithin b ≡ y
+            → cond x (cond y Nothing (At j)) (cond z (At i) (cond y (At i) (At j))) ≡ Nothing → lastVerdict (tabulate n f) ≡ accepted
+        go true true z ea eb e = made-good n f (λ q l. within-below n (λ h. ea) (λ h. eb) q l l)
+        go true false z ea eb e = absurd (different j (sym e))
+        go false y true ea eb e = absurd (different i (sym e))
+        go false true false ea eb e = absurd (different i (sym e))
+        go false false false ea eb e = absurd (different j (sym e))
+
+    pub two-put : putAnchor (putAnchor xs i a) j b ≡ listed (tabulate n f) xs
+    two-put =
+        by-places n f xs (putAnchor (putAnchor xs i a) j b) (length-put (putAnchor xs i a) j b ∙ length-put xs i a) at
+        (λ q l. put-out (putAnchor xs i a) j b q (inr (omega arith)) ∙ put-out xs i a q (inr (omega arith)))
+      where
+        room : j * 6 + 6 ≤ length (putAnchor xs i a)
+        room = rw (length-put xs i a) (omega arith)
+
+        at : (q : ℕ) → q < n → anchorAt (putAnchor (putAnchor xs i a) j b) q ≡ f q
+        at q l =
+            ⊎-elim
+            (λ e. rw e (at-put (putAnchor xs i a) j b room ∙ sym new-j))
+            (λ nj. at-put-other (putAnchor xs i a) j b q nj
+            ∙ ⊎-elim (λ e. rw e (at-put xs i a (omega arith) ∙ sym new-i)) (λ ni. at-put-other xs i a q ni ∙ sym (others q ni nj)) (same q i))
+            (same q j)

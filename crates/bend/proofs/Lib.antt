@@ -1,3 +1,4 @@
 pub mod Afterwards
 pub mod Outcomes
 pub mod Smooths
+pub mod Bends

@@ -7,4 +7,5 @@ mod places;
 mod smoothing;
 
 pub use calls::auto_smooth;
+pub use calls::bend_segment;
 pub use neighbours::Beside;

@@ -1,9 +1,15 @@
 // The exported calls that move the points of a path.
 ghost use mathlib.Core.Path.{_≡_};
-ghost use Rattle.bend.specs.Edits.{smoothAnswer, smoothLeft};
+ghost use mathlib.Core.Bool.{not};
+ghost use lib.Dec.{eqb};
+ghost use Rattle.geom.specs.Point.{point};
+ghost use Rattle.bend.specs.Edits.{smoothAnswer, smoothLeft, bendAnswer, bendLeft};
 ghost use Rattle.transform.specs.Call.{transformAnswer, transformShapes, transformAnchors};
 ghost use Rattle.outline.specs.Answers.{outlineCode, outlineWords};
 use crate::paths::outline_told;
+ghost use Rattle.outline.specs.Answers.{outlineCode, outlineWords};
+use crate::paths::outline_told;
+use geom::P;
 
 #[no_mangle]
 pub extern "C" fn outline_transform(
@@ -38,4 +44,25 @@ pub extern "C" fn outline_auto_smooth(
 {
     let a = bend::auto_smooth(shapes, anchors, s, k);
     outline_told(a, answer)
+}
+
+#[no_mangle]
+pub extern "C" fn outline_bend_segment(
+    shapes: &[u32],
+    anchors: &mut [f64],
+    s: usize,
+    a: usize,
+    t: f64,
+    dx: f64,
+    dy: f64,
+    keep_smooth: u32,
+    answer: &mut [u64; 4],
+) -> u32
+    ensures code { λ r. ⌜ r ≡ outlineCode (bendAnswer (now (shapes .entry)) (now (anchors .entry)) s a t (point dx dy) (not (eqb «keep_smooth» 0))) ⌝ }
+    ensures answer { λ _. ⌜ now (answer .exit) ≡ outlineWords (bendAnswer (now (shapes .entry)) (now (anchors .entry)) s a t (point dx dy) (not (eqb «keep_smooth» 0))) ⌝ }
+    ensures anchors { λ _. ⌜ now (anchors .exit) ≡ bendLeft (now (shapes .entry)) (now (anchors .entry)) s a t (point dx dy) (not (eqb «keep_smooth» 0)) ⌝ }
+{
+    let keep = keep_smooth != 0;
+    let b = bend::bend_segment(shapes, anchors, s, a, t, P { x: dx, y: dy }, keep);
+    outline_told(b, answer)
 }
