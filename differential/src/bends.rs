@@ -42,9 +42,15 @@ static DAMAGED: Group<Damage> = Group {
             path.numbers.pop();
         }),
         ("short", |path, random| shorten(&mut path.numbers, random)),
-        ("an anchor more", |path, random| one_more(&mut path.shapes, random)),
-        ("far more anchors", |path, random| far_more(&mut path.shapes, random)),
-        ("counts that wrap", |path, random| wrap(&mut path.shapes, random)),
+        ("an anchor more", |path, random| {
+            one_more(&mut path.shapes, random)
+        }),
+        ("far more anchors", |path, random| {
+            far_more(&mut path.shapes, random)
+        }),
+        ("counts that wrap", |path, random| {
+            wrap(&mut path.shapes, random)
+        }),
     ],
 };
 
@@ -98,19 +104,25 @@ static MAPS: Group<fn(&mut Random) -> Affine> = Group {
     name: "map",
     ways: &[
         ("identity", |_| [1.0, 0.0, 0.0, 1.0, 0.0, 0.0]),
-        ("shift", |random| [1.0, 0.0, 0.0, 1.0, integer(random), uniform(random)]),
+        ("shift", |random| {
+            [1.0, 0.0, 0.0, 1.0, integer(random), uniform(random)]
+        }),
         ("turn", |random| {
             let (cos, sin) = random.angle();
             [cos, sin, -sin, cos, integer(random), integer(random)]
         }),
-        ("small numbers", |random| std::array::from_fn(|_| random.signed_unit())),
+        ("small numbers", |random| {
+            std::array::from_fn(|_| random.signed_unit())
+        }),
         ("singular", |random| {
             let [a, b] = [integer(random), integer(random)];
             [a, b, 2.0 * a, 2.0 * b, integer(random), integer(random)]
         }),
         ("zero", |random| std::array::from_fn(|_| random.signed(0.0))),
         ("huge", |random| std::array::from_fn(|_| uniform(random))),
-        ("exponents", |random| std::array::from_fn(|_| exponent(random))),
+        ("exponents", |random| {
+            std::array::from_fn(|_| exponent(random))
+        }),
         ("edges", |random| std::array::from_fn(|_| edge(random))),
     ],
 };
@@ -236,12 +248,16 @@ static NAMES: Group<Naming> = Group {
         ("index 1", |path, random| {
             [random.below(path.shapes.len().max(1) as u64) as usize, 1]
         }),
-        ("far off", |_, random| [random.bits() as usize, random.bits() as usize]),
+        ("far off", |_, random| {
+            [random.bits() as usize, random.bits() as usize]
+        }),
     ],
 };
 
 fn count_of(path: &Path, s: usize) -> u32 {
-    path.shapes.get(s).map_or(0, |word| (word & !CLOSED).min(600))
+    path.shapes
+        .get(s)
+        .map_or(0, |word| (word & !CLOSED).min(600))
 }
 
 /// What the original's edit meets.
@@ -318,7 +334,11 @@ fn note_smooth(path: &Path, s: usize, k: usize, edited: &BezPath, families: &mut
     });
     let before = path.numbers.iter().map(|x| x.to_bits());
     let after = Path::of(edited).numbers;
-    if after.iter().map(|x| x.to_bits()).eq(before.take(after.len())) {
+    if after
+        .iter()
+        .map(|x| x.to_bits())
+        .eq(before.take(after.len()))
+    {
         families.push(EDITED[4]);
     }
 }
@@ -457,7 +477,10 @@ fn is_known(path: &Path, s: usize, a: usize) -> bool {
     match count_of(path, s) {
         0 => false,
         1 => a == 0,
-        _ => path.original()[s].segments().iter().any(|&(from, _)| from == a),
+        _ => path.original()[s]
+            .segments()
+            .iter()
+            .any(|&(from, _)| from == a),
     }
 }
 

@@ -105,12 +105,20 @@ static REFERENCES: Group<fn(&Path, &mut Random) -> (usize, usize)> = Group {
     ways: &[
         ("a segment", |path, random| {
             let all: Vec<_> = segments(path).collect();
-            if all.is_empty() { (0, 0) } else { *random.pick(&all) }
+            if all.is_empty() {
+                (0, 0)
+            } else {
+                *random.pick(&all)
+            }
         }),
         ("a closing segment", |path, random| {
             let closing = |&(s, a): &(usize, usize)| path.original()[s].anchors.len() == a + 1;
             let all: Vec<_> = segments(path).filter(closing).collect();
-            if all.is_empty() { (0, 0) } else { *random.pick(&all) }
+            if all.is_empty() {
+                (0, 0)
+            } else {
+                *random.pick(&all)
+            }
         }),
         ("the last anchor", |path, random| {
             let s = random.below(path.shapes.len() as u64 + 1) as usize;
@@ -131,7 +139,11 @@ static REFERENCES: Group<fn(&Path, &mut Random) -> (usize, usize)> = Group {
 fn segments(path: &Path) -> impl Iterator<Item = (usize, usize)> {
     let path = path.original();
     (0..path.len()).flat_map(move |s| {
-        let starts: Vec<_> = path[s].segments().into_iter().map(|(a, _)| (s, a)).collect();
+        let starts: Vec<_> = path[s]
+            .segments()
+            .into_iter()
+            .map(|(a, _)| (s, a))
+            .collect();
         starts
     })
 }
@@ -274,7 +286,9 @@ fn left(made: &Path) -> Expected {
 }
 
 fn outcome(refusal: u32) -> Family {
-    let at = [ACCEPTED, LISTS, ARGUMENTS, REFERENCE, CAPACITY, RESULT, OUTPUT];
+    let at = [
+        ACCEPTED, LISTS, ARGUMENTS, REFERENCE, CAPACITY, RESULT, OUTPUT,
+    ];
     let at = at.iter().position(|&known| known == refusal);
     OUTCOMES[at.expect("a refusal that there is")]
 }

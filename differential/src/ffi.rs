@@ -555,7 +555,17 @@ pub fn bend_segment(
     let (numbers, len) = (anchors.as_mut_ptr(), anchors.len());
     unsafe {
         outline_bend_segment(
-            words, words_len, numbers, len, s, a, t, dx, dy, keep_smooth, answer,
+            words,
+            words_len,
+            numbers,
+            len,
+            s,
+            a,
+            t,
+            dx,
+            dy,
+            keep_smooth,
+            answer,
         )
     }
 }

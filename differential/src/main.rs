@@ -135,7 +135,6 @@ fn run(seed: u64, cases: u64) -> ExitCode {
     tell(bends::transform(edits(cases), &mut random));
     tell(bends::auto_smooth(edits(cases), &mut random));
     tell(bends::bend_segment(edits(cases), &mut random));
-    #[cfg(feature = "cut")]
     tell(cuts::run(drawings(cases), &mut random));
     tell(cache::build(drawings(cases), &mut random));
     tell(cache::assemble(drawings(cases), &mut random));

@@ -33,7 +33,13 @@ pub const SHAPES: [Shape; 3] = [
         original: rect,
         library: |corners, radius, lents| {
             let [words, numbers] = results(&mut lents.results);
-            ffi::rect(corners, radius, words.words(), numbers.numbers(), lents.answer.answer())
+            ffi::rect(
+                corners,
+                radius,
+                words.words(),
+                numbers.numbers(),
+                lents.answer.answer(),
+            )
         },
     },
     Shape {
@@ -42,7 +48,12 @@ pub const SHAPES: [Shape; 3] = [
         original: |a, b, _| ellipse(a, b),
         library: |corners, _, lents| {
             let [words, numbers] = results(&mut lents.results);
-            ffi::ellipse(corners, words.words(), numbers.numbers(), lents.answer.answer())
+            ffi::ellipse(
+                corners,
+                words.words(),
+                numbers.numbers(),
+                lents.answer.answer(),
+            )
         },
     },
     Shape {
@@ -51,7 +62,12 @@ pub const SHAPES: [Shape; 3] = [
         original: |a, b, _| line(a, b),
         library: |corners, _, lents| {
             let [words, numbers] = results(&mut lents.results);
-            ffi::line(corners, words.words(), numbers.numbers(), lents.answer.answer())
+            ffi::line(
+                corners,
+                words.words(),
+                numbers.numbers(),
+                lents.answer.answer(),
+            )
         },
     },
 ];
@@ -97,8 +113,12 @@ static RADII: Group<Radius> = Group {
         ("0", |_, random| random.signed(0.0)),
         ("negative", |_, random| -uniform(random).abs()),
         ("near 1e-9", |_, random| near(1e-9, random)),
-        ("fitting", |corners, random| 0.5 * random.unit() * least_side(corners)),
-        ("half a side", |corners, random| near(0.5 * least_side(corners), random)),
+        ("fitting", |corners, random| {
+            0.5 * random.unit() * least_side(corners)
+        }),
+        ("half a side", |corners, random| {
+            near(0.5 * least_side(corners), random)
+        }),
         ("larger", |corners, random| {
             (least_side(corners) * (0.5 + random.unit())).min(LIMIT)
         }),
@@ -158,7 +178,9 @@ fn compare(shape: &Shape, tally: &mut Tally, random: &mut Random) {
         families.push(RECTS[usize::from(made[0].anchors.len() == 8)]);
     }
     let made = made.map(|made| Path::of(&made));
-    let needs = made.as_ref().map_or([1, 24], |made| [1, made.numbers.len()]);
+    let needs = made
+        .as_ref()
+        .map_or([1, 24], |made| [1, made.numbers.len()]);
     let rooms = needs.map(|need| Room::draw(need, random, &mut families));
     let expected = expected(made, &rooms);
     note_outcome(&expected, &rooms, &mut families);

@@ -7,8 +7,6 @@ ghost use Rattle.bend.specs.Edits.{smoothAnswer, smoothLeft, bendAnswer, bendLe
 ghost use Rattle.transform.specs.Call.{transformAnswer, transformShapes, transformAnchors};
 ghost use Rattle.outline.specs.Answers.{outlineCode, outlineWords};
 use crate::paths::outline_told;
-ghost use Rattle.outline.specs.Answers.{outlineCode, outlineWords};
-use crate::paths::outline_told;
 use geom::P;
 
 #[no_mangle]

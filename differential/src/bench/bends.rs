@@ -65,6 +65,13 @@ fn path(random: &mut Random) -> (Path, BezPath, Affine) {
         closed: true,
     }];
     let (cos, sin) = random.angle();
-    let m = [cos, sin, -sin, cos, 10.0 * random.unit(), 10.0 * random.unit()];
+    let m = [
+        cos,
+        sin,
+        -sin,
+        cos,
+        10.0 * random.unit(),
+        10.0 * random.unit(),
+    ];
     (Path::of(&path), path, m)
 }
