@@ -98,8 +98,8 @@ front : {A : Type 0} (d : A) (vs xs : List A) (n : ℕ) → n ≡ length vs → 
 front d vs xs n e h =
     let t = length-overwrite n (λ i. getD vs i d) xs in
     ext-getD d _ vs (length-take-le n _ (omega arith) ∙ e) (λ i l.
-        let k : i < n = omega (arith, length-take-le n (overwrite n (λ i. getD vs i d) xs) (omega arith)) in
-        getD-take n _ i d k ∙ at-overwrite d n _ xs i k (omega arith))
+    let k : i < n = omega (arith, length-take-le n (overwrite n (λ i. getD vs i d) xs) (omega arith)) in
+    getD-take n _ i d k ∙ at-overwrite d n _ xs i k (omega arith))
 
 -- a job that was read into lists that have room for any
 pub record Given (bytes shapes : List ℕ) (anchors radii : List Float) (kind m n : ℕ) : Type 0 where
