@@ -163,6 +163,10 @@ uint32_t outline_ellipse(double ax, double ay, double bx, double by, uint32_t *t
 uint32_t outline_line(double ax, double ay, double bx, double by, uint32_t *to_shapes, size_t to_shapes_len,
                       double *to, size_t to_len, outline_answer *answer);
 
+/* What the program patch prints for a job file, less the newline: SVG path data, or "refused N P". Answers how many bytes of line
+ * were written, at most 65,536; those past them keep their bits. */
+size_t outline_print(const uint8_t *job, size_t job_len, uint8_t line[65536]);
+
 #ifdef __cplusplus
 }
 #endif

@@ -235,6 +235,8 @@ extern "C" {
         keep_smooth: u32,
         answer: *mut Answer,
     ) -> u32;
+
+    fn outline_print(job: *const u8, job_len: usize, line: *mut [u8; 65_536]) -> usize;
 }
 
 pub fn root(x: f64) -> f64 {
@@ -568,4 +570,8 @@ pub fn bend_segment(
             answer,
         )
     }
+}
+
+pub fn print(job: &[u8], line: &mut [u8; 65_536]) -> usize {
+    unsafe { outline_print(job.as_ptr(), job.len(), line) }
 }

@@ -63,6 +63,14 @@ impl Lent {
         buffer
     }
 
+    /// Bytes that a call reads.
+    pub fn holding_bytes(bytes: &[u8], random: &mut Random) -> Lent {
+        let mut buffer = Lent::foreign(Entry::Byte, bytes.len(), random);
+        buffer.bytes().copy_from_slice(bytes);
+        buffer.lent.clone_from(&buffer.memory);
+        buffer
+    }
+
     /// For what a call answers.
     pub fn for_answer(random: &mut Random) -> Lent {
         Lent::foreign(Entry::Number, 4, random)

@@ -22,12 +22,14 @@ mod family;
 mod ffi;
 mod guard;
 mod hits;
+mod jobs;
 mod lents;
 mod numerals;
 mod original;
 mod outlines;
 mod parameters;
 mod paths;
+mod prints;
 mod radii;
 mod random;
 mod refusal;
@@ -70,6 +72,11 @@ fn corner_paths(cases: u64) -> u64 {
 /// Edits of paths, which take less than a cut.
 fn edits(cases: u64) -> u64 {
     (cases / 5).max(50_000)
+}
+
+/// Jobs, each read, cut and written.
+fn prints(cases: u64) -> u64 {
+    (cases / 10).max(50_000)
 }
 
 /// Hits and boxes.
@@ -146,6 +153,7 @@ fn run(seed: u64, cases: u64) -> ExitCode {
     tell(hits::hit_anchor(hits(cases), &mut random));
     tell(hits::hit_segment(hits(cases), &mut random));
     tell(hits::bounds(hits(cases), &mut random));
+    tell(prints::run(prints(cases), &mut random));
     let seconds = start.elapsed().as_secs_f64();
     let verdict = if passed { "passed" } else { "FAILED" };
     println!("{verdict}: seed {seed}, {cases} cases of each call, {seconds:.1} seconds");

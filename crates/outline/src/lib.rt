@@ -16,6 +16,7 @@ mod caches;
 mod corners;
 mod edits;
 mod hits;
+mod jobs;
 mod paths;
 mod shapes;
 

@@ -44,11 +44,11 @@ use Rattle.svg.specs.Path.{textOf}
 use Rattle.svg.proofs.Texts.{text-same}
 use Rattle.cache.specs.Cache.{placeOfPath, cachedIn}
 use Rattle.cache.specs.Tests.{cacheFits, cacheVerdict}
-use Rattle.cache.specs.Calls.{cutPlaces, buildVerdict, buildAnswer}
+use Rattle.cache.specs.Calls.{cutPlaces, buildVerdict, buildAnswer, buildNumbers, buildFlags, assembleAnswer, assembleShapes, assembleAnchors}
 use Rattle.cache.proofs.Accepted.{Drawn}
 use Rattle.cache.proofs.Outcomes.{cache-bad, cache-good, build-made}
 use Rattle.cache.proofs.Limited.{cached-outline}
-use Rattle.cache.proofs.Theorems.{subpath-cut, outline-cut}
+use Rattle.cache.proofs.Theorems.{subpath-cut, outline-cut, assemble-built}
 use Rattle.printing.specs.Refused.{refusedText}
 use Rattle.printing.specs.Printed.{fitted, unlessBad, cutText, drawingText}
 
@@ -89,6 +89,10 @@ module _ (shapes : List ℕ) (anchors radii : List Float) (kind : ℕ) (d : Draw
 
   ps-few : length ps ≤ 1024
   ps-few = omega (arith, count-is, outline-few shapes f, few)
+
+  -- room for it in 6,144 numbers
+  pub ps-room : length (cutUpTo (viewAt shapes anchors radii (d .way)) (length shapes)) * 6 ≤ 6144
+  ps-room = omega (arith, ps-few)
 
   -- ---- by what build found
   module _ (numbers : List Float) (flags : List ℕ) (fit : cacheFits shapes numbers flags ≡ true) where
@@ -185,3 +189,32 @@ module _ (shapes : List ℕ) (anchors radii : List Float) (kind : ℕ) (d : Draw
         ap₂ (λ ws xs. fitted (textOf ws (anchorAt xs))) words-left anchors-left
         ∙ ap fitted (text-same (anchorAt (listed ps to)) (nth ps) (outlineWords shapes f) (λ k l. listed-at ps to k long (omega (arith, total-is))) ∙ ap₂ (λ ws qs. textOf ws (nth qs)) (sym words-are) (sym outline-is))
         ∙ good-text
+
+  -- ---- and what is put together of the cache that build left is that cut
+  module _ (numbers : List Float) (flags : List ℕ) (fit : cacheFits shapes numbers flags ≡ true) (x y : ℕ) (e : buildAnswer shapes anchors radii kind numbers flags ≡ outline.Accepted x y)
+      (toShapes : List ℕ) (to : List Float) (wide : m ≤ length toShapes) (long : length ps * 6 ≤ length to) where
+    abbrev kept : List Float
+    kept = buildNumbers shapes anchors radii kind numbers flags
+
+    abbrev marked : List ℕ
+    marked = buildFlags shapes anchors radii kind numbers flags
+
+    pub assembled-answer : assembleAnswer shapes (buildNumbers shapes anchors radii kind numbers flags) (buildFlags shapes anchors radii kind numbers flags) toShapes to ≡ outline.Accepted (length shapes) (length (cutUpTo (viewAt shapes anchors radii (d .way)) (length shapes)))
+    assembled-answer =
+        let g = build-accepts numbers flags fit x y e in
+        assemble-built shapes anchors radii kind numbers flags (g .1) toShapes to .0 ∙ cut-answer (g .0) toShapes to wide long
+
+    pub assembled-opens : PathOpens 1024 (take (length shapes) (assembleShapes shapes (buildNumbers shapes anchors radii kind numbers flags) (buildFlags shapes anchors radii kind numbers flags) toShapes to))
+        (assembleAnchors shapes (buildNumbers shapes anchors radii kind numbers flags) (buildFlags shapes anchors radii kind numbers flags) toShapes to)
+        (total (take (length shapes) (assembleShapes shapes (buildNumbers shapes anchors radii kind numbers flags) (buildFlags shapes anchors radii kind numbers flags) toShapes to)))
+    assembled-opens =
+        let g = build-accepts numbers flags fit x y e in
+        let t = assemble-built shapes anchors radii kind numbers flags (g .1) toShapes to in
+        rw (t .1, t .2) (cut-opens (g .0) toShapes to wide long)
+
+    pub assembled-text : fitted (textOf (take (length shapes) (assembleShapes shapes (buildNumbers shapes anchors radii kind numbers flags) (buildFlags shapes anchors radii kind numbers flags) toShapes to))
+        (anchorAt (assembleAnchors shapes (buildNumbers shapes anchors radii kind numbers flags) (buildFlags shapes anchors radii kind numbers flags) toShapes to))) ≡ drawingText shapes anchors radii kind
+    assembled-text =
+        let g = build-accepts numbers flags fit x y e in
+        let t = assemble-built shapes anchors radii kind numbers flags (g .1) toShapes to in
+        rw (t .1, t .2) (cut-text (g .0) toShapes to wide long)

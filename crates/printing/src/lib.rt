@@ -1,7 +1,7 @@
-// The lines that the program `patch` will print: of a refusal, and of a cut outline. Its definition for a whole job is in specs/, with the laws
-// that its last two functions will cite in proofs/.
+// What the program `patch` prints for a job: every decision, from the job's bytes to the line's.
+mod drawing_line;
+mod job_line;
 mod path_line;
 mod refused;
 
-pub use path_line::put_path;
-pub use refused::put_refused;
+pub use job_line::print;
