@@ -74,9 +74,9 @@ fn edits(cases: u64) -> u64 {
     (cases / 5).max(50_000)
 }
 
-/// Jobs, each read, cut and written.
+/// Jobs, each read, cut and written; seven in eight are damaged.
 fn prints(cases: u64) -> u64 {
-    (cases / 10).max(50_000)
+    (cases / 8).max(50_000)
 }
 
 /// Hits and boxes.
