@@ -89,6 +89,38 @@ uint32_t outline_assemble(const uint32_t *shapes, size_t shapes_len, const doubl
                           uint32_t *to_shapes, size_t to_shapes_len, double *to, size_t to_len,
                           outline_answer *answer);
 
+/* The edits of a drawing and its cut cache, in place: anchor i of subpath s gets six new numbers, or a new radius, or the segment
+ * that starts at its anchor a is cut in two at t, its new anchor put at the index after a, with radius 0. Places within three
+ * steps of a moved anchor, two of one whose radius is set, four of a new one are recut, in the subpath as the edit leaves it,
+ * round the end where it is closed; all other places keep their bits, shifted up by one after a split, whatever stands in them.
+ * recut says how many places were recut, count how many anchors there are. Refuses 7 (also for numbers and flags), 5, 6, 9 (at
+ * the first place of an anchor written, then of a place recut, numbered as after the edit); a split also 10, and 8 where a list
+ * is too short for one place more. */
+uint32_t outline_move_anchor(const uint32_t *shapes, size_t shapes_len, double *anchors, size_t anchors_len,
+                             const double *radii, size_t radii_len, uint32_t kind,
+                             double *numbers, size_t numbers_len, uint32_t *flags, size_t flags_len,
+                             size_t s, size_t i, const double anchor[6], outline_answer *answer);
+uint32_t outline_set_radius(const uint32_t *shapes, size_t shapes_len, const double *anchors, size_t anchors_len,
+                            double *radii, size_t radii_len, uint32_t kind,
+                            double *numbers, size_t numbers_len, uint32_t *flags, size_t flags_len,
+                            size_t s, size_t i, double radius, outline_answer *answer);
+uint32_t outline_split_segment(uint32_t *shapes, size_t shapes_len, double *anchors, size_t anchors_len,
+                               double *radii, size_t radii_len, uint32_t kind,
+                               double *numbers, size_t numbers_len, uint32_t *flags, size_t flags_len,
+                               size_t s, size_t a, double t, outline_answer *answer);
+
+/* Builds the cache of a drawing, then runs a list of those edits one after the other. A call is three words of codes (0 move, 1 set
+ * radius, 2 split; subpath; anchor or segment start) and six numbers of values (move: the anchor; else the radius or t, then five
+ * that are not read). It is answered in five words of answers: refused: number, place, 0, 0, 0; accepted: 0, places recut, anchors,
+ * the place at which its subpath starts, that subpath's word afterwards. A call that is refused changes nothing, and the next one
+ * runs. count says how many calls were run. Refuses the whole list 7 (also where codes_len is no multiple of 3, or values or answers
+ * are too short), 5 (also for a code above 2, at the anchor count), 9 as outline_build; then no call is run. */
+uint32_t outline_replay(uint32_t *shapes, size_t shapes_len, double *anchors, size_t anchors_len,
+                        double *radii, size_t radii_len, uint32_t kind,
+                        double *numbers, size_t numbers_len, uint32_t *flags, size_t flags_len,
+                        const uint32_t *codes, size_t codes_len, const double *values, size_t values_len,
+                        uint32_t *answers, size_t answers_len, outline_answer *answer);
+
 /* The corners of a path that can be cut, in order, at most 512 anchors in: to places each one's index through the path, to
  * numbers nine for each: the point, the unit directions u and v in which its sides leave it, towards the anchor before and
  * the one after, x before y, their lengths, and the largest radius of a cut. count is the corners written. Refuses 7, 5, 9, 8. */
@@ -116,6 +148,22 @@ uint32_t outline_split(uint32_t *shapes, size_t shapes_len, double *anchors, siz
  * their list keeps its order. Refuses 7, 5, 6. */
 uint32_t outline_reversed(const uint32_t *shapes, size_t shapes_len, double *anchors, size_t anchors_len,
                           const double *radii, size_t radii_len, size_t s, outline_answer *answer);
+
+/* Joins a path being drawn onto a subpath, to lent lists: one open subpath, the drawn anchors and then the target's. The last of the
+ * drawn_count drawn ones lands on the target's first anchor, or, where at_start is 0, on its last, and the target is then passed the
+ * other way. The joint keeps the handle that the drawn anchors arrive with, and the target's handle leaving it. None need be drawn.
+ * target_word is the target's shape word, of which only the count is read. At most 512 anchors each, and 512 in all. to_shapes needs
+ * one entry; subpaths is 1. Refuses 7, 5 (the target's places after the drawn ones'), 6 (an empty target), 10, 9 at the joint, 8. */
+uint32_t outline_join(const double *drawn, size_t drawn_len, size_t drawn_count, const double *target, size_t target_len,
+                      uint32_t target_word, uint32_t at_start, uint32_t *to_shapes, size_t to_shapes_len,
+                      double *to, size_t to_len, outline_answer *answer);
+
+/* Deletes the anchors that which names, a subpath and an anchor of it for each, in any order and any number of times; then
+ * every subpath of fewer than 3 anchors, or 2 where it is open, also one that lost none. Both lists keep their lengths:
+ * subpaths and count say how much of them the path now takes, and what stands past it keeps its bits. Refuses 7 (also where
+ * which_len is odd), 5, 6. */
+uint32_t outline_delete(uint32_t *shapes, size_t shapes_len, double *anchors, size_t anchors_len,
+                        const uint32_t *which, size_t which_len, outline_answer *answer);
 
 /* Hits: the nearest anchor to (x, y), and the nearest point of the path by 48 chords to a segment, where it is within tol
  * (equal counts), the first on ties; at most 32 subpaths and 512 anchors. The four words of the answer are here place, the
@@ -162,6 +210,13 @@ uint32_t outline_ellipse(double ax, double ay, double bx, double by, uint32_t *t
 /* The line from a to b, open, of 2 anchors. Refuses 5, 8; its 9 cannot occur. */
 uint32_t outline_line(double ax, double ay, double bx, double by, uint32_t *to_shapes, size_t to_shapes_len,
                       double *to, size_t to_len, outline_answer *answer);
+
+/* A job file, of any length, read into a drawing's lists: a word a subpath, six numbers and a radius an anchor. The four words of
+ * the answer are here place, the anchors, the subpaths, and the kind (outline_kind). Refuses 1 (the length is no multiple of 4, no
+ * end word, a word after it), 2 (a word of unknown kind, out of order or with a payload that is not listed), 3 (the end word with
+ * no subpath), 4 (anchor 513 or subpath 33), each at a word's index, then 8. */
+uint32_t outline_read(const uint8_t *bytes, size_t bytes_len, uint32_t *shapes, size_t shapes_len,
+                      double *anchors, size_t anchors_len, double *radii, size_t radii_len, outline_answer *answer);
 
 /* What the program patch prints for a job file, less the newline: SVG path data, or "refused N P". Answers how many bytes of line
  * were written, at most 65,536; those past them keep their bits. */

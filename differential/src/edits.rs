@@ -1,4 +1,4 @@
-//! The edits of a path in place: an anchor put into a segment, and a drawing's subpath turned round.
+//! The edits of a path in place: an anchor put into a segment, a drawing's subpath turned round, and anchors deleted.
 
 use crate::compare::{mismatch, Expected};
 use crate::damage::{far_more, lengthen, one_more, put_outside, shorten, wrap};
@@ -7,7 +7,7 @@ use crate::family::{self, Family, Group};
 use crate::ffi;
 use crate::guard::Lent;
 use crate::lents::Lents;
-use crate::original::bezier;
+use crate::original::bezier::{self, AnchorRef, BezPath};
 use crate::outlines;
 use crate::parameters::PARAMETER;
 use crate::paths::{Path, SIX};
@@ -390,4 +390,229 @@ fn expected_turned(drawing: &mut Drawing, s: usize) -> Expected {
     let mut expected = left(&Path::of(&original));
     expected.written.remove(0);
     expected
+}
+
+/// What goes, where a call is accepted.
+const DELETED: [Family; 8] = [
+    ("deleted", "nothing"),
+    ("deleted", "anchors alone"),
+    ("deleted", "a subpath that anchors were deleted from"),
+    ("deleted", "a subpath with too few at first"),
+    ("deleted", "a subpath before one that stays"),
+    ("deleted", "every subpath"),
+    ("left", "closed, 3"),
+    ("left", "open, 2"),
+];
+
+pub fn delete(cases: u64, random: &mut Random) -> Tally {
+    let families = [
+        OUTCOMES[..4].to_vec(),
+        DELETED.to_vec(),
+        outlines::families(),
+        NAMED.families(),
+        WRONG.families(),
+        BEYOND.families(),
+        DAMAGE.families(),
+    ];
+    let mut tally = Tally::new("delete", families.concat());
+    for _ in 0..cases {
+        compare_deleted(Delete::draw(random), &mut tally, random);
+    }
+    tally
+}
+
+/// One generated call.
+struct Delete {
+    families: Vec<Family>,
+    path: Path,
+    which: Vec<u32>,
+}
+
+impl Delete {
+    fn draw(random: &mut Random) -> Delete {
+        let mut families = Vec::new();
+        let original = outlines::draw(MOST_ANCHORS, random, &mut families);
+        let mut path = Path::of(&original);
+        let named = NAMED.draw(random, &mut families)(&original, random);
+        let pairs = named.iter().map(|&(s, a)| [s as u32, a as u32]);
+        let mut which = pairs.flatten().collect();
+        if random.one_in(8) {
+            WRONG.draw(random, &mut families)(&original, &mut which, random);
+        }
+        BEYOND.draw(random, &mut families)(&mut path, random);
+        if random.one_in(8) {
+            DAMAGE.draw(random, &mut families)(&mut path, random);
+        }
+        Delete {
+            families,
+            path,
+            which,
+        }
+    }
+
+    fn size(&self) -> u64 {
+        self.path.size() + self.which.len() as u64
+    }
+}
+
+/// Which anchors a call names, all of them there.
+static NAMED: Group<fn(&BezPath, &mut Random) -> Vec<AnchorRef>> = Group {
+    name: "named",
+    ways: &[
+        ("none", |_, _| Vec::new()),
+        ("one", |path, random| picked(path, 1, random)),
+        ("a few", |path, random| some(path, 4, random)),
+        ("half", |path, random| some(path, 2, random)),
+        ("a subpath", |path, random| {
+            let s = random.below(path.len() as u64 + 1) as usize;
+            let of = |&(t, _): &AnchorRef| t == s;
+            anchors(path).into_iter().filter(of).collect()
+        }),
+        ("all", |path, _| anchors(path)),
+        ("some twice, in any order", |path, random| {
+            let mut named = picked(path, random.below(9), random);
+            named.extend_from_within(..);
+            named
+        }),
+    ],
+};
+
+fn anchors(path: &BezPath) -> Vec<AnchorRef> {
+    let of = |s: usize| (0..path[s].anchors.len()).map(move |a| (s, a));
+    (0..path.len()).flat_map(of).collect()
+}
+
+/// So many of the anchors, where there are any.
+fn picked(path: &BezPath, count: u64, random: &mut Random) -> Vec<AnchorRef> {
+    let all = anchors(path);
+    let count = if all.is_empty() { 0 } else { count };
+    (0..count).map(|_| *random.pick(&all)).collect()
+}
+
+/// One in so many of the anchors.
+fn some(path: &BezPath, one_in: u64, random: &mut Random) -> Vec<AnchorRef> {
+    let mut named = anchors(path);
+    named.retain(|_| random.one_in(one_in));
+    named
+}
+
+type Spoil = fn(&BezPath, &mut Vec<u32>, &mut Random);
+
+/// What is wrong with a list of references.
+static WRONG: Group<Spoil> = Group {
+    name: "wrong",
+    ways: &[
+        ("half a pair", |_, which, random| {
+            which.insert(random.below(which.len() as u64 + 1) as usize, 0)
+        }),
+        ("the anchor past the end", |path, which, random| {
+            let s = random.below(path.len() as u64 + 1) as usize;
+            let n = path.get(s).map_or(0, |sp| sp.anchors.len());
+            put_pair(which, [s as u32, n as u32], random);
+        }),
+        ("the subpath past the end", |path, which, random| {
+            put_pair(which, [path.len() as u32, 0], random)
+        }),
+        ("far off", |_, which, random| {
+            let far = |random: &mut Random| random.bits() as u32 >> random.below(32);
+            let pair = [far(random), far(random)];
+            put_pair(which, pair, random);
+        }),
+    ],
+};
+
+fn put_pair(which: &mut Vec<u32>, pair: [u32; 2], random: &mut Random) {
+    let at = 2 * random.below(which.len() as u64 / 2 + 1) as usize;
+    which.splice(at..at, pair);
+}
+
+/// Numbers past those that the words call for.
+static BEYOND: Group<Change> = Group {
+    name: "room",
+    ways: &[
+        ("exact", |_, _| {}),
+        ("longer", |path, random| lengthen(&mut path.numbers, random)),
+    ],
+};
+
+fn compare_deleted(mut call: Delete, tally: &mut Tally, random: &mut Random) {
+    let expected = expected_deleted(&mut call);
+    call.families.push(outcome(expected.refusal));
+    tally.count(1, &call.families);
+    let mut lents = Lents {
+        given: vec![Lent::holding_words(&call.which, random)],
+        results: vec![
+            Lent::holding_words(&call.path.shapes, random),
+            Lent::holding(&call.path.numbers, random),
+        ],
+        answer: Lent::for_answer(random),
+    };
+    let ([which], [shapes, anchors]) = (&mut lents.given[..], &mut lents.results[..]) else {
+        unreachable!("one list is given, and two are written")
+    };
+    let refusal = ffi::delete(
+        shapes.words(),
+        anchors.numbers(),
+        which.words(),
+        lents.answer.answer(),
+    );
+    if let Some(wrong) = mismatch(&expected, refusal, &lents) {
+        tally.fail(call.size(), || {
+            format!(
+                "    {}\n{}\n    which {:?}\n    {wrong}",
+                family::list(&call.families),
+                call.path,
+                call.which
+            )
+        });
+    }
+}
+
+/// Document 01's refusals in their order, 7, 5, 6; else what the original leaves.
+fn expected_deleted(call: &mut Delete) -> Expected {
+    if !call.path.is_readable(MOST_ANCHORS) || !call.which.len().is_multiple_of(2) {
+        return Expected::refused(LISTS);
+    }
+    if let Some(place) = call.path.first_outside() {
+        return Expected::refused_at(place, ARGUMENTS);
+    }
+    let given = call.path.original();
+    let pairs = call.which.chunks(2);
+    let named: Vec<_> = pairs.map(|p| (p[0] as usize, p[1] as usize)).collect();
+    let is_there = |&(s, a): &AnchorRef| given.get(s).is_some_and(|sp| a < sp.anchors.len());
+    if !named.iter().all(is_there) {
+        return Expected::refused(REFERENCE);
+    }
+    let mut original = call.path.original();
+    bezier::delete(&mut original, &named);
+    note_deleted(&given, &named, &original, &mut call.families);
+    left(&Path::of(&original))
+}
+
+/// What went of a path, and what is left as short as may be.
+fn note_deleted(given: &BezPath, named: &[AnchorRef], left: &BezPath, families: &mut Vec<Family>) {
+    let least = |closed: bool| if closed { 3 } else { 2 };
+    let stays = |s: usize| {
+        let gone = (0..given[s].anchors.len()).filter(|&a| named.contains(&(s, a)));
+        given[s].anchors.len() - gone.count() >= least(given[s].closed)
+    };
+    let goes: Vec<_> = (0..given.len()).filter(|&s| !stays(s)).collect();
+    let short = |&s: &usize| given[s].anchors.len() < least(given[s].closed);
+    let last = (0..given.len()).rev().find(|&s| stays(s));
+    let left_at_least = |closed: bool| {
+        let mut left = left.iter().filter(|sp| sp.closed == closed);
+        left.any(|sp| sp.anchors.len() == least(closed))
+    };
+    let noted = [
+        goes.is_empty() && named.is_empty(),
+        goes.is_empty() && !named.is_empty(),
+        !goes.iter().all(short),
+        goes.iter().any(short),
+        goes.iter().any(|&s| last.is_some_and(|last| s < last)),
+        !given.is_empty() && left.is_empty(),
+        left_at_least(true),
+        left_at_least(false),
+    ];
+    let noted = DELETED.iter().zip(noted).filter(|(_, noted)| *noted);
+    families.extend(noted.map(|(&family, _)| family));
 }

@@ -70,6 +70,81 @@ extern "C" {
         answer: *mut Answer,
     ) -> u32;
 
+    fn outline_move_anchor(
+        shapes: *const u32,
+        shapes_len: usize,
+        anchors: *mut f64,
+        anchors_len: usize,
+        radii: *const f64,
+        radii_len: usize,
+        kind: u32,
+        numbers: *mut f64,
+        numbers_len: usize,
+        flags: *mut u32,
+        flags_len: usize,
+        s: usize,
+        i: usize,
+        new: *const [f64; 6],
+        answer: *mut Answer,
+    ) -> u32;
+
+    fn outline_set_radius(
+        shapes: *const u32,
+        shapes_len: usize,
+        anchors: *const f64,
+        anchors_len: usize,
+        radii: *mut f64,
+        radii_len: usize,
+        kind: u32,
+        numbers: *mut f64,
+        numbers_len: usize,
+        flags: *mut u32,
+        flags_len: usize,
+        s: usize,
+        i: usize,
+        radius: f64,
+        answer: *mut Answer,
+    ) -> u32;
+
+    fn outline_split_segment(
+        shapes: *mut u32,
+        shapes_len: usize,
+        anchors: *mut f64,
+        anchors_len: usize,
+        radii: *mut f64,
+        radii_len: usize,
+        kind: u32,
+        numbers: *mut f64,
+        numbers_len: usize,
+        flags: *mut u32,
+        flags_len: usize,
+        s: usize,
+        a: usize,
+        t: f64,
+        answer: *mut Answer,
+    ) -> u32;
+
+    fn outline_replay(
+        shapes: *mut u32,
+        shapes_len: usize,
+        anchors: *mut f64,
+        anchors_len: usize,
+        radii: *mut f64,
+        radii_len: usize,
+        kind: u32,
+        numbers: *mut f64,
+        numbers_len: usize,
+        flags: *mut u32,
+        flags_len: usize,
+        codes: *const u32,
+        codes_len: usize,
+        values: *const f64,
+        values_len: usize,
+        answers: *mut u32,
+        answers_len: usize,
+        answer: *mut Answer,
+    ) -> u32;
+
     fn outline_assemble(
         shapes: *const u32,
         shapes_len: usize,
@@ -127,6 +202,16 @@ extern "C" {
         radii: *const f64,
         radii_len: usize,
         s: usize,
+        answer: *mut Answer,
+    ) -> u32;
+
+    fn outline_delete(
+        shapes: *mut u32,
+        shapes_len: usize,
+        anchors: *mut f64,
+        anchors_len: usize,
+        which: *const u32,
+        which_len: usize,
         answer: *mut Answer,
     ) -> u32;
 
@@ -236,6 +321,33 @@ extern "C" {
         answer: *mut Answer,
     ) -> u32;
 
+    fn outline_read(
+        bytes: *const u8,
+        bytes_len: usize,
+        shapes: *mut u32,
+        shapes_len: usize,
+        anchors: *mut f64,
+        anchors_len: usize,
+        radii: *mut f64,
+        radii_len: usize,
+        answer: *mut Answer,
+    ) -> u32;
+
+    fn outline_join(
+        drawn: *const f64,
+        drawn_len: usize,
+        drawn_count: usize,
+        target: *const f64,
+        target_len: usize,
+        target_word: u32,
+        at_start: u32,
+        to_shapes: *mut u32,
+        to_shapes_len: usize,
+        to: *mut f64,
+        to_len: usize,
+        answer: *mut Answer,
+    ) -> u32;
+
     fn outline_print(job: *const u8, job_len: usize, line: *mut [u8; 65_536]) -> usize;
 }
 
@@ -320,6 +432,144 @@ pub fn build(
             numbers.len(),
             flags.as_mut_ptr(),
             flags.len(),
+            answer,
+        )
+    }
+}
+
+#[allow(clippy::too_many_arguments)]
+pub fn move_anchor(
+    shapes: &[u32],
+    anchors: &mut [f64],
+    radii: &[f64],
+    kind: u32,
+    numbers: &mut [f64],
+    flags: &mut [u32],
+    s: usize,
+    i: usize,
+    new: &[f64; 6],
+    answer: &mut Answer,
+) -> u32 {
+    unsafe {
+        outline_move_anchor(
+            shapes.as_ptr(),
+            shapes.len(),
+            anchors.as_mut_ptr(),
+            anchors.len(),
+            radii.as_ptr(),
+            radii.len(),
+            kind,
+            numbers.as_mut_ptr(),
+            numbers.len(),
+            flags.as_mut_ptr(),
+            flags.len(),
+            s,
+            i,
+            new,
+            answer,
+        )
+    }
+}
+
+#[allow(clippy::too_many_arguments)]
+pub fn set_radius(
+    shapes: &[u32],
+    anchors: &[f64],
+    radii: &mut [f64],
+    kind: u32,
+    numbers: &mut [f64],
+    flags: &mut [u32],
+    s: usize,
+    i: usize,
+    radius: f64,
+    answer: &mut Answer,
+) -> u32 {
+    unsafe {
+        outline_set_radius(
+            shapes.as_ptr(),
+            shapes.len(),
+            anchors.as_ptr(),
+            anchors.len(),
+            radii.as_mut_ptr(),
+            radii.len(),
+            kind,
+            numbers.as_mut_ptr(),
+            numbers.len(),
+            flags.as_mut_ptr(),
+            flags.len(),
+            s,
+            i,
+            radius,
+            answer,
+        )
+    }
+}
+
+#[allow(clippy::too_many_arguments)]
+pub fn split_segment(
+    shapes: &mut [u32],
+    anchors: &mut [f64],
+    radii: &mut [f64],
+    kind: u32,
+    numbers: &mut [f64],
+    flags: &mut [u32],
+    s: usize,
+    a: usize,
+    t: f64,
+    answer: &mut Answer,
+) -> u32 {
+    unsafe {
+        outline_split_segment(
+            shapes.as_mut_ptr(),
+            shapes.len(),
+            anchors.as_mut_ptr(),
+            anchors.len(),
+            radii.as_mut_ptr(),
+            radii.len(),
+            kind,
+            numbers.as_mut_ptr(),
+            numbers.len(),
+            flags.as_mut_ptr(),
+            flags.len(),
+            s,
+            a,
+            t,
+            answer,
+        )
+    }
+}
+
+#[allow(clippy::too_many_arguments)]
+pub fn replay(
+    shapes: &mut [u32],
+    anchors: &mut [f64],
+    radii: &mut [f64],
+    kind: u32,
+    numbers: &mut [f64],
+    flags: &mut [u32],
+    (codes, values): (&[u32], &[f64]),
+    answers: &mut [u32],
+    answer: &mut Answer,
+) -> u32 {
+    unsafe {
+        outline_replay(
+            shapes.as_mut_ptr(),
+            shapes.len(),
+            anchors.as_mut_ptr(),
+            anchors.len(),
+            radii.as_mut_ptr(),
+            radii.len(),
+            kind,
+            numbers.as_mut_ptr(),
+            numbers.len(),
+            flags.as_mut_ptr(),
+            flags.len(),
+            codes.as_ptr(),
+            codes.len(),
+            values.as_ptr(),
+            values.len(),
+            answers.as_mut_ptr(),
+            answers.len(),
             answer,
         )
     }
@@ -425,6 +675,23 @@ pub fn reversed(
             radii,
             radii_len,
             s,
+            answer,
+        )
+    }
+}
+
+pub fn delete(shapes: &mut [u32], anchors: &mut [f64], which: &[u32], answer: &mut Answer) -> u32 {
+    let (shapes, shapes_len) = (shapes.as_mut_ptr(), shapes.len());
+    let (anchors, anchors_len) = (anchors.as_mut_ptr(), anchors.len());
+    let (which, which_len) = (which.as_ptr(), which.len());
+    unsafe {
+        outline_delete(
+            shapes,
+            shapes_len,
+            anchors,
+            anchors_len,
+            which,
+            which_len,
             answer,
         )
     }
@@ -567,6 +834,54 @@ pub fn bend_segment(
             dx,
             dy,
             keep_smooth,
+            answer,
+        )
+    }
+}
+
+pub fn read(
+    bytes: &[u8],
+    shapes: &mut [u32],
+    anchors: &mut [f64],
+    radii: &mut [f64],
+    answer: &mut Answer,
+) -> u32 {
+    unsafe {
+        outline_read(
+            bytes.as_ptr(),
+            bytes.len(),
+            shapes.as_mut_ptr(),
+            shapes.len(),
+            anchors.as_mut_ptr(),
+            anchors.len(),
+            radii.as_mut_ptr(),
+            radii.len(),
+            answer,
+        )
+    }
+}
+
+pub fn join(
+    (drawn, drawn_count): (&[f64], usize),
+    (target, target_word): (&[f64], u32),
+    at_start: u32,
+    to_shapes: &mut [u32],
+    to: &mut [f64],
+    answer: &mut Answer,
+) -> u32 {
+    unsafe {
+        outline_join(
+            drawn.as_ptr(),
+            drawn.len(),
+            drawn_count,
+            target.as_ptr(),
+            target.len(),
+            target_word,
+            at_start,
+            to_shapes.as_mut_ptr(),
+            to_shapes.len(),
+            to.as_mut_ptr(),
+            to.len(),
             answer,
         )
     }

@@ -1,10 +1,17 @@
-//! Job files: what document 01 reads of one, word by word, and ways to write and to damage them.
+//! Job files: what document 01 reads of one, word by word, ways to write and to damage them, and what the library's reader answers.
 
+use crate::case::Room;
+use crate::compare::{mismatch, Expected};
 use crate::drawings::Drawing;
 use crate::family::{Family, Group};
+use crate::ffi;
+use crate::guard::{Entry, Lent};
+use crate::lents::Lents;
+use crate::parameters::ROOM;
 use crate::paths::{CLOSED, SIX};
 use crate::random::Random;
-use crate::refusal::{MOST_ANCHORS, MOST_SUBPATHS};
+use crate::refusal::{ACCEPTED, MOST_ANCHORS, MOST_SUBPATHS, OUTPUT};
+use crate::report::Tally;
 
 /// Bytes of a word.
 const WORD: usize = 4;
@@ -12,6 +19,8 @@ const WORD: usize = 4;
 const PAYLOAD: u32 = 28;
 const UNIT: f64 = 1024.0;
 const END: u32 = 15;
+/// Payloads of a head.
+const KINDS: u32 = 3;
 
 // The reader's refusals.
 pub const WORDS: u32 = 1;
@@ -73,7 +82,7 @@ fn refusal(before: Option<u32>, word: u32, drawing: &Drawing) -> Option<u32> {
         Some(before) => FOLLOWS[before as usize].contains(&kind(word)),
     };
     let listed = match kind(word) {
-        0 => payload(word) <= 2,
+        0 => payload(word) < KINDS,
         1 => payload(word) <= 1,
         END => payload(word) == 0,
         _ => true,
@@ -231,16 +240,176 @@ pub fn at_limits() -> Vec<(Family, Vec<u8>)> {
         (LIMITS[3], anchors(MOST_ANCHORS + 1)),
         (LIMITS[4], extreme(1 << 27)),
         (LIMITS[5], extreme((1 << 27) - 1)),
+        (LIMITS[6], subpaths(0)),
     ]
     .map(|(family, words)| (family, bytes(&words)))
     .into()
 }
 
-pub const LIMITS: [Family; 6] = [
+pub const LIMITS: [Family; 7] = [
     ("limits", "32 subpaths"),
     ("limits", "33 subpaths"),
     ("limits", "512 anchors"),
     ("limits", "513 anchors"),
     ("limits", "the least number"),
     ("limits", "the greatest"),
+    ("limits", "no subpath"),
 ];
+
+// ---- the library's reader
+
+const SQUARE: Family = ("jobs", "document 01's square");
+const DRAWN: Family = ("jobs", "drawn");
+
+/// What a job comes out in: read, refused by a word, in lists that would be too short too, or by these lists alone.
+const OUTCOMES: [Family; 13] = [
+    ("outcome", "read"),
+    ("outcome", "refused 1"),
+    ("outcome", "refused 2"),
+    ("outcome", "refused 3"),
+    ("outcome", "refused 4"),
+    ("outcome", "refused 1, and short"),
+    ("outcome", "refused 2, and short"),
+    ("outcome", "refused 3, and short"),
+    ("outcome", "refused 4, and short"),
+    ("outcome", "refused 8 for the words"),
+    ("outcome", "refused 8 for the numbers"),
+    ("outcome", "refused 8 for the radii"),
+    ("outcome", "refused 8 for several"),
+];
+
+pub fn run(cases: u64, random: &mut Random) -> Tally {
+    let families = [
+        OUTCOMES.to_vec(),
+        vec![SQUARE, DRAWN],
+        LIMITS.to_vec(),
+        DAMAGES.families(),
+        ROOM.families(),
+    ];
+    let mut tally = Tally::new("read", families.concat());
+    let squares = (0..KINDS).map(|kind| (SQUARE, square(kind)));
+    for (family, job) in squares.chain(at_limits()) {
+        for rooms in tight(needs(&read(&job))) {
+            compare(&job, &rooms, vec![family], &mut tally, random);
+        }
+    }
+    for _ in 0..cases {
+        let mut families = vec![DRAWN];
+        let mut job = bytes(&write(&drawn(random), random));
+        DAMAGES.draw(random, &mut families)(&mut job, random);
+        let rooms = needs(&read(&job)).map(|need| Room::draw(need, random, &mut families));
+        compare(&job, &rooms, families, &mut tally, random);
+    }
+    tally
+}
+
+/// Of whatever size a job may have.
+fn drawn(random: &mut Random) -> Drawing {
+    loop {
+        let drawing = Drawing::whole(random);
+        if drawing.is_readable() {
+            return drawing;
+        }
+    }
+}
+
+/// Entries for the words, the numbers and the radii; of a job that is refused, for one anchor.
+fn needs(read: &Result<Drawing, (u32, usize)>) -> [usize; 3] {
+    match read {
+        Ok(drawing) => [
+            drawing.path.shapes.len(),
+            drawing.path.numbers.len(),
+            drawing.radii.len(),
+        ],
+        Err(_) => [1, SIX, 1],
+    }
+}
+
+/// Just long enough; and one list one too short, each in turn.
+fn tight(needs: [usize; 3]) -> Vec<[Room; 3]> {
+    let mut all = vec![needs.map(Room::exact)];
+    for list in 0..needs.len() {
+        let mut rooms = needs.map(Room::exact);
+        rooms[list].lent = needs[list].saturating_sub(1);
+        all.push(rooms);
+    }
+    all
+}
+
+fn compare(
+    job: &[u8],
+    rooms: &[Room; 3],
+    mut families: Vec<Family>,
+    tally: &mut Tally,
+    random: &mut Random,
+) {
+    let short = rooms.each_ref().map(Room::is_short);
+    let expected = expected(read(job), short);
+    families.push(outcome(expected.refusal, short));
+    tally.count(1, &families);
+    let [words, numbers, radii] = rooms;
+    let mut lents = Lents {
+        given: vec![Lent::holding_bytes(job, random)],
+        results: vec![
+            Lent::foreign(Entry::Word, words.lent, random),
+            Lent::foreign(Entry::Number, numbers.lent, random),
+            Lent::foreign(Entry::Number, radii.lent, random),
+        ],
+        answer: Lent::for_answer(random),
+    };
+    let refusal = library(&mut lents);
+    if let Some(wrong) = mismatch(&expected, refusal, &lents) {
+        tally.fail(job.len() as u64, || {
+            format!("    {job:02x?}, {words}, {numbers}, {radii}\n    {wrong}")
+        });
+    }
+}
+
+/// The words' refusals, then 8.
+fn expected(read: Result<Drawing, (u32, usize)>, short: [bool; 3]) -> Expected {
+    let drawing = match read {
+        Ok(drawing) => drawing,
+        Err((number, place)) => return Expected::refused_at(place, number),
+    };
+    if short.contains(&true) {
+        return Expected::refused(OUTPUT);
+    }
+    let words: Vec<u64> = drawing.path.shapes.iter().copied().map(u64::from).collect();
+    let bits = |numbers: &[f64]| numbers.iter().map(|x| x.to_bits()).collect();
+    Expected {
+        refusal: ACCEPTED,
+        answer: [
+            0,
+            drawing.path.anchors(),
+            words.len() as u64,
+            u64::from(drawing.kind),
+        ],
+        written: vec![words, bits(&drawing.path.numbers), bits(&drawing.radii)],
+    }
+}
+
+fn outcome(refusal: u32, short: [bool; 3]) -> Family {
+    let at = match (refusal, short) {
+        (ACCEPTED, _) => 0,
+        (OUTPUT, [true, false, false]) => 9,
+        (OUTPUT, [false, true, false]) => 10,
+        (OUTPUT, [false, false, true]) => 11,
+        (OUTPUT, _) => 12,
+        (word, short) if short.contains(&true) => 4 + word,
+        (word, _) => word,
+    };
+    OUTCOMES[at as usize]
+}
+
+fn library(lents: &mut Lents) -> u32 {
+    let ([job], [shapes, anchors, radii]) = (&mut lents.given[..], &mut lents.results[..]) else {
+        unreachable!("a job is given, and three buffers lent")
+    };
+    ffi::read(
+        job.bytes(),
+        shapes.words(),
+        anchors.numbers(),
+        radii.numbers(),
+        lents.answer.answer(),
+    )
+}

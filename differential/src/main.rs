@@ -23,6 +23,8 @@ mod ffi;
 mod guard;
 mod hits;
 mod jobs;
+mod joins;
+mod kept;
 mod lents;
 mod numerals;
 mod original;
@@ -33,10 +35,12 @@ mod prints;
 mod radii;
 mod random;
 mod refusal;
+mod replays;
 mod report;
 mod root;
 mod samples;
 mod selftest;
+mod sessions;
 mod shapes;
 mod sizes;
 mod stand_ins;
@@ -74,7 +78,7 @@ fn edits(cases: u64) -> u64 {
     (cases / 5).max(50_000)
 }
 
-/// Jobs, each read, cut and written; seven in eight are damaged.
+/// Jobs, each read, or read, cut and written; seven in eight are damaged.
 fn prints(cases: u64) -> u64 {
     (cases / 8).max(50_000)
 }
@@ -83,6 +87,14 @@ fn prints(cases: u64) -> u64 {
 fn hits(cases: u64) -> u64 {
     (cases / 10).max(50_000)
 }
+
+/// Calls in lists on caches.
+fn session_calls(cases: u64) -> u64 {
+    (cases / 5).max(50_000)
+}
+
+/// Calls of the one long list.
+const LONG_LIST: u64 = 1_000_000;
 
 fn main() -> ExitCode {
     let arguments: Vec<String> = std::env::args().skip(1).collect();
@@ -150,10 +162,17 @@ fn run(seed: u64, cases: u64) -> ExitCode {
     tell(text::to_svg_d(drawings(cases), &mut random));
     tell(edits::split(edits(cases), &mut random));
     tell(edits::reversed(edits(cases), &mut random));
+    tell(joins::join(edits(cases), &mut random));
+    tell(edits::delete(edits(cases), &mut random));
     tell(hits::hit_anchor(hits(cases), &mut random));
     tell(hits::hit_segment(hits(cases), &mut random));
     tell(hits::bounds(hits(cases), &mut random));
+    tell(jobs::run(prints(cases), &mut random));
     tell(prints::run(prints(cases), &mut random));
+    tell(sessions::edits(drawings(cases), &mut random));
+    tell(sessions::lists(session_calls(cases), &mut random));
+    tell(replays::run(drawings(cases), &mut random));
+    tell(sessions::long(LONG_LIST.min(cases), &mut random));
     let seconds = start.elapsed().as_secs_f64();
     let verdict = if passed { "passed" } else { "FAILED" };
     println!("{verdict}: seed {seed}, {cases} cases of each call, {seconds:.1} seconds");

@@ -1,11 +1,10 @@
--- An edit of one anchor: which verdict the test of the places within reach leaves. Assumes nothing.
+-- An edit: what the test of the places within reach says of it, and the verdict that this leaves to an edit of one anchor. Assumes nothing.
 use mathlib.Core.Path.{_≡_, refl, sym, ap, _∙_}
 use mathlib.Core.Logic.{⊎-elim}
-use mathlib.Core.Bool.{Bool, true, false, not, _&&_, _||_, cond}
+use mathlib.Core.Bool.{Bool, true, false, not, _||_}
 use mathlib.Core.List.{List}
 use Prim.Native.Nat.{ℕ, _+_, _-_, _*_, _≤_, _<_}
 use native.Mathlib.Omega.{arith}
-use lib.Dec.{leb, ltb}
 use lib.ListN.{length}
 use lib.Ieee.{Float}
 use borrow.Author.Tests.{le-leb, le-ltb}
@@ -14,11 +13,10 @@ use Rattle.views.specs.Search.{all}
 use Rattle.views.proofs.Laws.{order}
 use Rattle.views.proofs.Searches.{and-false}
 use Rattle.real.specs.Limit.{inLimit}
-use Rattle.refusal.specs.Order.{Verdict, accepted, refused}
+use Rattle.refusal.specs.Order.{accepted, refused}
 use Rattle.path.specs.declared.limit.Found.the-variants.{At, Nothing}
 use Rattle.path.specs.Flat.{anchorAt}
 use Rattle.path.specs.Shape.{countOf, total, wordAt, start}
-use Rattle.path.specs.Limit.{firstBad}
 use Rattle.path.proofs.Shapes.{total-in}
 use Rattle.path.proofs.Limits.{GoodBelow, Least, first-is, none-is}
 use Rattle.corner.specs.declared.cut.CornerKind.{CornerKind}
@@ -26,7 +24,6 @@ use Rattle.cut.specs.declared.subpath.Sub.{Sub}
 use Rattle.cut.specs.declared.subpath.Window.{Window}
 use Rattle.cut.specs.View.{View}
 use Rattle.cut.specs.Subpath.{viewOf}
-use Rattle.cut.specs.Near.{near}
 use Rattle.cut.specs.Places.{placeAt, placeNumbers}
 use Rattle.cut.specs.Recut.{reached}
 use Rattle.cut_calls.specs.PlainCut.{subAt}
@@ -41,30 +38,25 @@ use Rattle.session.proofs.Outcomes.{out-recut, out-pass}
 use Rattle.cached.specs.Near.{reachedIn, goodNear, recutFound}
 use Rattle.cached.proofs.Openings.{ReadyFor}
 
-module _ (l : Lent) (kind : ℕ) (e : Edit) (m : ℕ) (way : CornerKind) (r : ReadyFor l kind (e .loose) m way) (known : e .known ≡ true)
-    (same : e .made .shapes ≡ l .shapes) (s i reach : ℕ) (there : s < length (l .shapes))
-    (recuts : (k : ℕ) → e .recuts k ≡ reached (viewIn (e .made) s) (start (l .shapes) s) reach i k)
-    (written : GoodBelow (writtenGood e) (total (e .made .shapes)))
-    (anchors radii : List Float) (like : Like (viewIn (e .made) s) (viewOf (anchorAt anchors) (entry radii) (λ k. way) 128 (subAt (l .shapes) s))) where
+-- ---- the code's test of the places within reach is the definition's; `shapes` are those of what the edit makes
+module _ (e : Edit) (shapes : List ℕ) (same : e .made .shapes ≡ shapes) (way : CornerKind) (s i reach : ℕ) (there : s < length shapes)
+    (recuts : (k : ℕ) → e .recuts k ≡ reached (viewIn (e .made) s) (start shapes s) reach i k)
+    (anchors radii : List Float) (like : Like (viewIn (e .made) s) (viewOf (anchorAt anchors) (entry radii) (λ k. way) 128 (subAt shapes s))) where
   abbrev sub : Sub
-  sub = subAt (l .shapes) s
+  sub = subAt shapes s
 
   abbrev win : Window
   win = record { at = i; reach = reach }
 
   abbrev w : View
-  w = viewOf (anchorAt anchors) (entry radii) (λ k. way) 128 (subAt (l .shapes) s)
+  w = viewOf (anchorAt anchors) (entry radii) (λ k. way) 128 (subAt shapes s)
 
   abbrev first : ℕ
-  first = start (l .shapes) s
+  first = start shapes s
 
   abbrev size : ℕ
-  size = countOf (wordAt (l .shapes) s)
+  size = countOf (wordAt shapes s)
 
-  same-total : total (e .made .shapes) ≡ total (l .shapes)
-  same-total = ap total same
-
-  -- ---- the code's test of a place is the definition's
   reached-same : (k : ℕ) → reachedIn sub win k ≡ e .recuts k
   unfolding reachedIn reached viewOf subAt
   reached-same k = rw (like .n, like .closed) (sym (recuts k))
@@ -85,26 +77,39 @@ module _ (l : Lent) (kind : ℕ) (e : Edit) (m : ℕ) (way : CornerKind) (r : Re
   unfolding goodNear reachedIn subAt
   past-good k h = rw (le-ltb k (first + size) h, and-false)
 
-  inside-path : first + size ≤ total (l .shapes)
-  inside-path = total-in (l .shapes) s there
-
   all-good : GoodBelow (goodNear w sub win) (first + size) → GoodBelow (recutGood e) (total (e .made .shapes))
   all-good g k h = sym (test-same k) ∙ ⊎-elim (λ (p : first + size ≤ k). past-good k p) (λ (p : k < first + size). g k p) (order (first + size) k)
 
   least-good : (k : ℕ) → Least (goodNear w sub win) (first + size) k → Least (recutGood e) (total (e .made .shapes)) k
   least-good k g = record {
-    place = let p = g .place in omega (arith, same-total, inside-path);
+    place = let p = g .place in omega (arith, ap total same, total-in shapes s there);
     bad = sym (test-same k) ∙ g .bad;
     below = λ j h. sym (test-same j) ∙ g .below j h;
   }
 
-  -- ---- 9, or none
+  pub near-bad : (k : ℕ) → recutFound anchors radii way (subAt shapes s) (record { at = i; reach = reach }) ≡ At k → Least (recutGood e) (total (e .made .shapes)) k
+  unfolding recutFound subAt
+  near-bad k h = least-good k (first-is _ _ _ .0 h)
+
+  pub near-good : recutFound anchors radii way (subAt shapes s) (record { at = i; reach = reach }) ≡ Nothing → GoodBelow (recutGood e) (total (e .made .shapes))
+  unfolding recutFound subAt
+  near-good h = all-good (none-is _ _ .0 h)
+
+-- ---- an edit of one anchor: 9, or none
+module _ (l : Lent) (kind : ℕ) (e : Edit) (m : ℕ) (way : CornerKind) (r : ReadyFor l kind (e .loose) m way) (known : e .known ≡ true)
+    (same : e .made .shapes ≡ l .shapes) (s i reach : ℕ) (there : s < length (l .shapes))
+    (recuts : (k : ℕ) → e .recuts k ≡ reached (viewIn (e .made) s) (start (l .shapes) s) reach i k)
+    (written : GoodBelow (writtenGood e) (total (e .made .shapes)))
+    (anchors radii : List Float) (like : Like (viewIn (e .made) s) (viewOf (anchorAt anchors) (entry radii) (λ k. way) 128 (subAt (l .shapes) s))) where
+  same-total : total (e .made .shapes) ≡ total (l .shapes)
+  same-total = ap total same
+
   few : total (e .made .shapes) ≤ 512
   few = omega (arith, same-total, r .few)
 
   pub edit-bad : (k : ℕ) → recutFound anchors radii way (subAt (l .shapes) s) (record { at = i; reach = reach }) ≡ At k → editVerdict l kind e ≡ refused 9 k
-  unfolding recutFound subAt
-  edit-bad k h = out-recut l kind e (r .fits) (r .good-places) (r .arguments) known few written k (least-good k (first-is _ _ _ .0 h))
+  edit-bad k h =
+      out-recut l kind e (r .fits) (r .good-places) (r .arguments) known few written k (near-bad e (l .shapes) same way s i reach there recuts anchors radii like k h)
 
   room : roomIn l (total (e .made .shapes)) ≡ true
   unfolding roomIn lengthsOf
@@ -119,5 +124,5 @@ module _ (l : Lent) (kind : ℕ) (e : Edit) (m : ℕ) (way : CornerKind) (r : Re
       )
 
   pub edit-good : recutFound anchors radii way (subAt (l .shapes) s) (record { at = i; reach = reach }) ≡ Nothing → editVerdict l kind e ≡ accepted
-  unfolding recutFound subAt
-  edit-good h = out-pass l kind e (r .fits) (r .good-places) (r .arguments) known few written (all-good (none-is _ _ .0 h)) room
+  edit-good h =
+      out-pass l kind e (r .fits) (r .good-places) (r .arguments) known few written (near-good e (l .shapes) same way s i reach there recuts anchors radii like h) room

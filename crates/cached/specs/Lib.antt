@@ -1,2 +1,4 @@
 pub mod Opening
 pub mod Near
+pub mod Splitting
+pub mod Row

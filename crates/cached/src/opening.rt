@@ -3,6 +3,7 @@ ghost use mathlib.Core.Path.{_≡_};
 ghost use Prim.Native.Nat.{_≤_, _<_};
 ghost use lib.ListN.{length};
 ghost use Rattle.cut_calls.specs.PlainCut.{subAt};
+ghost use Rattle.edit.specs.Split.{hasSegment};
 ghost use Rattle.session.specs.Edits.{hasAnchor};
 ghost use Rattle.cached.specs.Opening.{lent, openedCached, readyOf};
 use call::Opened;
@@ -70,6 +71,17 @@ pub fn has_anchor(shapes: &[u32], s: usize, i: usize) -> bool
         return false;
     }
     i < path::count_of(shapes[s])
+}
+
+// Whether a segment starts at anchor a of subpath s.
+pub fn has_segment(shapes: &[u32], s: usize, a: usize) -> bool
+    ensures { λ r. ⌜ r ≡ hasSegment (now (shapes .entry)) s a ⌝ }
+{
+    if shapes.len() <= s {
+        return false;
+    }
+    let count = path::count_of(shapes[s]);
+    path::has_segment(count, path::closed_of(shapes[s]), a)
 }
 
 // Subpath s.

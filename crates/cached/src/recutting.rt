@@ -4,6 +4,7 @@ ghost use Prim.Native.Nat.{_+_, _*_, _≤_};
 ghost use lib.ListN.{length};
 ghost use Rattle.cut.specs.Subpath.{Fits, Inside};
 ghost use Rattle.cached.specs.Near.{recutAnswerOf, recutNumbersLeft, recutFlagsLeft};
+ghost use Rattle.cached.specs.Row.{Middle};
 use crate::copying::copy_near;
 use crate::testing::first_bad_near;
 use corner::CornerKind;
@@ -134,6 +135,47 @@ fn recut_large(
     )
 }
 
+// As an open subpath of the anchors within three of the window, where none of them is past an end: no place within reach turns on another.
+fn recut_row(
+    anchors: &[f64],
+    radii: &[f64],
+    kind: CornerKind,
+    sub: Sub,
+    w: Window,
+    numbers: &mut [f64],
+    flags: &mut [u32],
+) -> Recut
+    requires { ⌜ Fits sub (length (now anchors)) × Inside sub w × (sub .first + sub .n ≤ length (now radii)) × Middle sub w ⌝ }
+    requires { ⌜ ((sub .first + sub .n) * 12 ≤ length (now numbers)) × (sub .first + sub .n ≤ length (now flags)) ⌝ }
+    ensures answer { λ r. ⌜ r ≡ recutAnswerOf (now (anchors .entry)) (now (radii .entry)) kind sub w ⌝ }
+    ensures numbers { λ _. ⌜ now (numbers .exit) ≡ recutNumbersLeft (now (anchors .entry)) (now (radii .entry)) kind sub w (now (numbers .entry)) ⌝ }
+    ensures flags { λ _. ⌜ now (flags .exit) ≡ recutFlagsLeft (now (anchors .entry)) (now (radii .entry)) kind sub w (now (flags .entry)) ⌝ }
+{
+    let reach = w.reach;
+    let from = sub.first + w.at - (reach + 3);
+    let to = from + (2 * reach + 7);
+    let recut = recut_small(
+        &anchors[from * 6..to * 6],
+        &radii[from..to],
+        kind,
+        Sub {
+            first: 0,
+            n: 2 * reach + 7,
+            closed: false,
+        },
+        Window {
+            at: reach + 3,
+            reach: reach,
+        },
+        &mut numbers[from * 12..to * 12],
+        &mut flags[from..to],
+    );
+    if let Recut::Bad(k) = recut {
+        return Recut::Bad(from + k);
+    }
+    recut
+}
+
 // Recuts the places within reach in the cache.
 pub fn recut_cache(
     anchors: &[f64],
@@ -152,6 +194,9 @@ pub fn recut_cache(
 {
     if sub.first + sub.n <= 32 {
         return recut_small(anchors, radii, kind, sub, w, numbers, flags);
+    }
+    if w.reach <= 4 && w.reach + 3 <= w.at && w.at + w.reach + 3 < sub.n {
+        return recut_row(anchors, radii, kind, sub, w, numbers, flags);
     }
     recut_large(anchors, radii, kind, sub, w, numbers, flags)
 }

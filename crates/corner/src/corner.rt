@@ -31,19 +31,21 @@ impl Corner {
         let at = a.p;
         let side_u = Side::of(at, a.h_in, prev.h_out, prev.p);
         let side_v = Side::of(at, a.h_out, next.h_in, next.p);
-        let du = side_u.direction();
+        let hu = side_u.direction();
+        let du = hu.along;
         let Direction::Along(u) = du else {
             return Corner::none();
         };
-        let dv = side_v.direction();
+        let hv = side_v.direction();
+        let dv = hv.along;
         let Direction::Along(v) = dv else {
             return Corner::none();
         };
-        Corner::meet(at, u, v, side_u, side_v)
+        Corner::meet(at, u, v, side_u, side_v, hu.far, hv.far)
     }
 
-    // The corner at which two sides leave in the directions u and v.
-    fn meet(at: P, u: P, v: P, side_u: Side, side_v: Side) -> Corner
+    // The corner at which two sides leave in the directions u and v. The hints may be their lengths.
+    fn meet(at: P, u: P, v: P, side_u: Side, side_v: Side, hint_u: f64, hint_v: f64) -> Corner
         ensures { λ r. ⌜ r ≡ meet 128 at u v «side_u» «side_v» ⌝ }
     {
         let c = Corner {
@@ -51,8 +53,8 @@ impl Corner {
             at: at,
             u: u,
             v: v,
-            lu: side_u.length(),
-            lv: side_v.length(),
+            lu: side_u.length(hint_u),
+            lv: side_v.length(hint_v),
             side_u: side_u,
             side_v: side_v,
         };

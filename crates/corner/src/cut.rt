@@ -48,8 +48,8 @@ impl Corner {
         let s = self.setback(radius);
         let side_u = self.side_u;
         let side_v = self.side_v;
-        let a = side_u.at_length(s, self.u);
-        let b = side_v.at_length(s, self.v);
+        let a = side_u.at_length(s, self.u, self.lu);
+        let b = side_v.at_length(s, self.v, self.lv);
         let start = a.p;
         let end = b.p;
         let h = self.handles(radius, kind, s, a, b);

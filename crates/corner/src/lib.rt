@@ -14,5 +14,6 @@ pub use cut::Handles;
 pub use cut::Lengths;
 pub use side::At;
 pub use side::Direction;
+pub use side::Heading;
 pub use side::Side;
 pub use side::is_straight_side;

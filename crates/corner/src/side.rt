@@ -15,6 +15,12 @@ pub enum Direction {
     Nowhere,
 }
 
+// A side's direction, and how far off the point is that it was found by: on a straight side that is the side's length.
+pub struct Heading {
+    pub along: Direction,
+    pub far: f64,
+}
+
 // A length along a side: the parameter, the point there, and the direction in which the side runs on.
 pub struct At {
     pub t: f64,
@@ -45,47 +51,54 @@ impl Side {
     }
 
     // Towards the first of c1, c2, c3 that is farther than 1e-9 from c0.
-    pub fn direction(self) -> Direction
-        ensures { λ r. ⌜ r ≡ direction self ⌝ }
+    pub fn direction(self) -> Heading
+        ensures { λ r. ⌜ r .along ≡ direction self ⌝ }
     {
         let c = self.c;
         for k in 1..4 {
             let d = c[k].sub(c[0]);
             if path::beyond(d) {
-                return Direction::Along(unit(d));
+                let far = d.len();
+                return Heading {
+                    along: Direction::Along(d.mul(1.0 / far)),
+                    far: far,
+                };
             }
         }
-        Direction::Nowhere
+        Heading {
+            along: Direction::Nowhere,
+            far: 0.0,
+        }
     }
 
-    // The distance of the ends where the side is straight, else the sum of 128 chords.
-    pub fn length(self) -> f64
+    // The distance of the ends where the side is straight, which `hint` may be, else the sum of 128 chords.
+    pub fn length(self, hint: f64) -> f64
         ensures { λ r. ⌜ r ≡ lengthOf 128 self ⌝ }
     {
         let c = self.c;
         if is_straight_side(c) {
-            return c[0].dist(c[3]);
+            return c[0].dist_near(c[3], hint);
         }
         curve_length(c)
     }
 
-    // The place s along the side from the corner; u is the direction in which the side leaves.
-    pub fn at_length(self, s: f64, u: P) -> At
+    // The place s along the side from the corner; u is the direction in which the side leaves, and `hint` may be its length.
+    pub fn at_length(self, s: f64, u: P, hint: f64) -> At
         ensures { λ r. ⌜ r ≡ atLength 128 self s u ⌝ }
     {
         let c = self.c;
         if is_straight_side(c) {
-            return at_line(c, s, u);
+            return at_line(c, s, u, hint);
         }
         at_curve(c, s, u)
     }
 }
 
 // The same on a straight side.
-fn at_line(c: [P; 4], s: f64, u: P) -> At
+fn at_line(c: [P; 4], s: f64, u: P, hint: f64) -> At
     ensures { λ r. ⌜ r ≡ atLine c s u ⌝ }
 {
-    let len = c[0].dist(c[3]);
+    let len = c[0].dist_near(c[3], hint);
     let p = c[0].add(u.mul(s));
     if 1e-9 < len {
         return At {

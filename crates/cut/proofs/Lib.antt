@@ -6,5 +6,6 @@ pub mod Stages
 pub mod Whole
 pub mod Follow
 pub mod Locality
+pub mod RowLocality
 pub mod Edits
 pub mod Outlines

@@ -65,6 +65,23 @@ module _ (p : ℕ → Bool) (first : ℕ) where
       (λ ne. touched-away m k ne)
       (same k (first + m))
 
+  -- indices that do not pass change nothing
+  pub touched-idle : (a b k : ℕ) → a ≤ b → ((j : ℕ) → a ≤ j → j < b → p j ≡ false) → touched p first a k ≡ touched p first b k
+  unfolding touched
+  touched-idle a b k l h =
+      ⊎-elim
+      (λ (f : first ≤ k).
+      ⊎-elim
+      (λ (u : first + b ≤ k). rw (le-ltb k (first + a) (omega arith), le-ltb k (first + b) u))
+      (λ (u : k < first + b).
+      ⊎-elim
+      (λ (v : first + a ≤ k). rw (le-ltb k (first + a) v, lt-ltb k (first + b) u, h (k - first) (omega arith) (omega arith)))
+      (λ (v : k < first + a). rw (lt-ltb k (first + a) v, lt-ltb k (first + b) u))
+      (order (first + a) k))
+      (order (first + b) k))
+      (λ (f : k < first). rw (lt-leb first k f))
+      (order first k)
+
 -- ---- numbers, twelve a place
 unfoldable pub numbersAt : (ℕ → Bool) → ℕ → (ℕ → List Float) → List Float → ℕ → ℕ → Float
 numbersAt p first f xs m j = cond (touched p first m (j / 12)) (entry (f (j / 12 - first)) (j % 12)) (entry xs j)
@@ -73,6 +90,10 @@ module _ (p : ℕ → Bool) (first : ℕ) (f : ℕ → List Float) (xs : List Fl
   pub numbers-none : (j : ℕ) → entry xs j ≡ numbersAt p first f xs 0 j
   unfolding numbersAt
   numbers-none j = rw (touched-none p first (j / 12))
+
+  pub numbers-idle : (ys : List Float) (a b : ℕ) → a ≤ b → ((j : ℕ) → a ≤ j → j < b → p j ≡ false) → ((j : ℕ) → entry ys j ≡ numbersAt p first f xs a j) → (j : ℕ) → entry ys j ≡ numbersAt p first f xs b j
+  unfolding numbersAt
+  numbers-idle ys a b l q h j = h j ∙ rw (touched-idle p first a b (j / 12) l q)
 
   pub numbers-skip : (ys : List Float) (m : ℕ) → p m ≡ false → ((j : ℕ) → entry ys j ≡ numbersAt p first f xs m j) → (j : ℕ) → entry ys j ≡ numbersAt p first f xs (m + 1) j
   unfolding numbersAt
@@ -103,6 +124,10 @@ module _ (p : ℕ → Bool) (first : ℕ) (f : ℕ → ℕ) (fs : List ℕ) wher
   pub flags-none : (k : ℕ) → getD fs k 0 ≡ flagsAt p first f fs 0 k
   unfolding flagsAt
   flags-none k = rw (touched-none p first k)
+
+  pub flags-idle : (gs : List ℕ) (a b : ℕ) → a ≤ b → ((j : ℕ) → a ≤ j → j < b → p j ≡ false) → ((k : ℕ) → getD gs k 0 ≡ flagsAt p first f fs a k) → (k : ℕ) → getD gs k 0 ≡ flagsAt p first f fs b k
+  unfolding flagsAt
+  flags-idle gs a b l q h k = h k ∙ rw (touched-idle p first a b k l q)
 
   pub flags-skip : (gs : List ℕ) (m : ℕ) → p m ≡ false → ((k : ℕ) → getD gs k 0 ≡ flagsAt p first f fs m k) → (k : ℕ) → getD gs k 0 ≡ flagsAt p first f fs (m + 1) k
   unfolding flagsAt

@@ -1,14 +1,14 @@
 -- Steps and neighbours: `prev` and `next` stay in the subpath, and each is one step. Assumes nothing.
 use mathlib.Core.Path.{_≡_, refl, sym, ap, _∙_}
 use mathlib.Core.Logic.{_⊎_, inl, inr, ⊎-elim}
-use mathlib.Core.Bool.{Bool, true, false, _&&_, _||_, or-false}
+use mathlib.Core.Bool.{Bool, true, false, _&&_, _||_, or-false, cond}
 use Prim.Native.Nat.{ℕ, zero, suc, _+_, _-_, _≤_, _<_}
 use native.Mathlib.Omega.{arith}
 use lib.Dec.{leb, ltb}
-use borrow.Author.Tests.{leb-true, le-leb, lt-ltb, le-ltb}
+use borrow.Author.Tests.{leb-true, le-leb, lt-leb, lt-ltb, le-ltb}
 use Rattle.views.proofs.Laws.{order}
 use Rattle.path.specs.Shape.{prev, next}
-use Rattle.cut.specs.Near.{gap, near}
+use Rattle.cut.specs.Near.{gap, near, around, spanOf}
 
 -- ---- the neighbours
 
@@ -77,6 +77,56 @@ near-more k n c i j h =
     ⊎-elim (λ (a : gap i j ≤ k). near-in (suc k) n c i j (omega arith))
     (λ (b : (c ≡ true) × (n ≤ gap i j + k)). near-round (suc k) n c i j (b .0) (omega arith))
     (near-cases k n c i j h)
+
+-- ---- the row in which the near ones are
+not-around : (k n i : ℕ) → (ltb i k || leb n (i + k)) ≡ false → (k ≤ i) × (i + k < n)
+not-around k n i e =
+    ⊎-elim
+    (λ (a : k ≤ i).
+    ⊎-elim (λ (b : n ≤ i + k). absurd (not-both _ e (or-right (ltb i k) (leb n (i + k)) (le-leb n (i + k) b)))) (λ (b : i + k < n). (a, b)) (order n (i + k)))
+    (λ (a : i < k). absurd (not-both _ e (or-left (ltb i k) (leb n (i + k)) (lt-ltb i k a))))
+    (order k i)
+
+module _ (k n : ℕ) (c : Bool) (i j : ℕ) (l : j < n) where
+  up-to : gap i j ≤ k → j < cond (ltb (i + k) n) (i + k + 1) n
+  unfolding gap
+  up-to h = ⊎-elim (λ (a : n ≤ i + k). rw (le-ltb (i + k) n a) l) (λ (a : i + k < n). rw (lt-ltb (i + k) n a) (omega arith)) (order n (i + k))
+
+  in-span : (b : Bool) → around k n c i ≡ b → near k n c i j ≡ true → (cond b 0 (i - k) ≤ j) × (j < cond b n (cond (ltb (i + k) n) (i + k + 1) n))
+  unfolding around gap
+  in-span true e h = (omega arith, l)
+  in-span false e h =
+      ⊎-elim (λ (a : gap i j ≤ k). (omega arith, up-to a))
+      (λ (b : (c ≡ true) × (n ≤ gap i j + k)). let q = not-around k n i (rw (b .0) at e) in absurd (omega arith))
+      (near-cases k n c i j h)
+
+  pub near-span : near k n c i j ≡ true → (spanOf k n c i .from ≤ j) × (j < spanOf k n c i .to)
+  unfolding spanOf
+  near-span = in-span (around k n c i) refl
+
+refuted : (b : Bool) → (b ≡ true → ⊥) → b ≡ false
+refuted true h = absurd (h refl)
+refuted false h = refl
+
+-- none is near before the span, nor after it
+pub before-span : (k n : ℕ) (c : Bool) (i j : ℕ) → j < n → j < spanOf k n c i .from → near k n c i j ≡ false
+before-span k n c i j l h = refuted _ (λ e. let q = near-span k n c i j l e .0 in omega arith)
+
+pub after-span : (k n : ℕ) (c : Bool) (i j : ℕ) → j < n → spanOf k n c i .to ≤ j → near k n c i j ≡ false
+after-span k n c i j l h = refuted _ (λ e. let q = near-span k n c i j l e .1 in omega arith)
+
+-- and it lies in the subpath
+pub span-in : (k n : ℕ) (c : Bool) (i : ℕ) → i ≤ n → (spanOf k n c i .from ≤ n) × (spanOf k n c i .to ≤ n)
+unfolding spanOf
+span-in k n c i l = (from-in (around k n c i), to-in (around k n c i))
+  where
+    from-in : (b : Bool) → cond b 0 (i - k) ≤ n
+    from-in true = omega arith
+    from-in false = omega arith
+
+    to-in : (b : Bool) → cond b n (cond (ltb (i + k) n) (i + k + 1) n) ≤ n
+    to-in true = omega arith
+    to-in false = ⊎-elim (λ (a : n ≤ i + k). rw (le-ltb (i + k) n a) (omega arith)) (λ (a : i + k < n). rw (lt-ltb (i + k) n a) (omega arith)) (order n (i + k))
 
 -- a step back, where there is one
 pub near-prev : (k n : ℕ) (c : Bool) (i j : ℕ) → i ≤ n → j < n → (c || ltb 0 j) ≡ true → near k n c i j ≡ true → near (suc k) n c i (prev n j) ≡ true

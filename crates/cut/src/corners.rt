@@ -16,6 +16,7 @@ use crate::subpath::Sub;
 use crate::subpath::Window;
 use crate::subpath::corner_at;
 use crate::subpath::near;
+use crate::subpath::span;
 use corner::Corner;
 use corner::Side;
 
@@ -51,7 +52,8 @@ pub fn find_corners(anchors: &[f64], radii: &[f64], sub: Sub, w: Window, rows: &
 {
     let first = sub.first;
     let n = sub.n;
-    for i in 0..n {
+    let there = span(w.reach + 2, n, sub.closed, w.at);
+    for i in there.from..there.to {
         if !near(w.reach + 2, n, sub.closed, w.at, i) {
             continue;
         }

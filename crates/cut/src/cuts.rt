@@ -13,6 +13,7 @@ use crate::rows::row_at;
 use crate::subpath::Sub;
 use crate::subpath::Window;
 use crate::subpath::near;
+use crate::subpath::span;
 use corner::Corner;
 use corner::CornerKind;
 
@@ -57,7 +58,8 @@ pub fn make_cuts(
 {
     let first = sub.first;
     let n = sub.n;
-    for i in 0..n {
+    let there = span(w.reach + 1, n, sub.closed, w.at);
+    for i in there.from..there.to {
         if !near(w.reach + 1, n, sub.closed, w.at, i) {
             continue;
         }

@@ -10,6 +10,8 @@ mod subpath;
 pub use passes::recut;
 pub use places::Place;
 pub use places::Trim;
+pub use subpath::Indices;
 pub use subpath::Sub;
 pub use subpath::Window;
 pub use subpath::near;
+pub use subpath::span;

@@ -19,6 +19,7 @@ use crate::subpath::Window;
 use crate::subpath::arrives;
 use crate::subpath::leaves;
 use crate::subpath::near;
+use crate::subpath::span;
 use corner::Cut;
 use geom::P;
 use path::Anchor;
@@ -193,7 +194,8 @@ pub fn lay_places(
     let first = sub.first;
     let n = sub.n;
     let mut count: usize = 0;
-    for i in 0..n {
+    let there = span(w.reach, n, sub.closed, w.at);
+    for i in there.from..there.to {
         if !near(w.reach, n, sub.closed, w.at, i) {
             continue;
         }

@@ -2,13 +2,13 @@
 ghost use mathlib.Core.Path.{_≡_};
 ghost use mathlib.Core.Bool.{_||_};
 ghost use lib.Dec.{ltb};
-ghost use Prim.Native.Nat.{ℕ, _+_, _≤_, _<_};
+ghost use Prim.Native.Nat.{ℕ, _+_, _≤_, _<_, _-_};
 ghost use lib.Ieee.{Float};
 ghost use lib.ListN.{length};
 ghost use Rattle.path.specs.Flat.{anchorAt};
 ghost use Rattle.corner.specs.declared.cut.CornerKind.{CornerKind};
 ghost use Rattle.cut.specs.Subpath.{Fits, viewOf};
-ghost use Rattle.cut.specs.Near.{gap, near};
+ghost use Rattle.cut.specs.Near.{gap, near, around, spanOf};
 ghost use Rattle.cut.specs.Places.{cornerAt};
 use corner::Corner;
 
@@ -42,6 +42,51 @@ pub fn near(k: usize, n: usize, closed: bool, i: usize, j: usize) -> bool
         return true;
     }
     closed && n <= d + k
+}
+
+// The indices from `from` to below `to`.
+pub struct Indices {
+    pub from: usize,
+    pub to: usize,
+}
+
+// Whether k steps from i may pass the end of a closed subpath.
+fn around(k: usize, n: usize, closed: bool, i: usize) -> bool
+    requires { ⌜ (k ≤ 4096) × (i ≤ 4096) ⌝ }
+    ensures { λ r. ⌜ r ≡ around k n closed i ⌝ }
+{
+    if !closed {
+        return false;
+    }
+    if i < k {
+        return true;
+    }
+    n <= i + k
+}
+
+// k steps back from i, down to 0.
+fn back(i: usize, k: usize) -> usize
+    ensures { λ r. ⌜ r ≡ i - k ⌝ }
+{
+    if i < k { 0 } else { i - k }
+}
+
+// Where the indices within k steps of i are: in a row, unless the steps may pass the end of a closed subpath.
+pub fn span(k: usize, n: usize, closed: bool, i: usize) -> Indices
+    requires { ⌜ (k ≤ 4096) × (i ≤ 4096) ⌝ }
+    ensures { λ r. ⌜ r ≡ spanOf k n closed i ⌝ }
+{
+    if around(k, n, closed, i) {
+        return Indices { from: 0, to: n };
+    }
+    let from = back(i, k);
+    if i + k < n {
+        return Indices {
+            from: from,
+            to: i + k + 1,
+        };
+    }
+    Indices { from: from, to: n }
 }
 
 // Whether a segment arrives at index i, and whether one leaves it.

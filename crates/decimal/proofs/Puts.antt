@@ -17,6 +17,14 @@ set-past [] i b h = refl
 set-past (x ∷ l) zero b h = absurd (not-suc-le-zero h)
 set-past (x ∷ l) (suc i) b h = ap (λ t. x ∷ t) (set-past l i b (le-of-suc-le-suc h))
 
+pub sets-past : (a l : List ℕ) (i : ℕ) → length l ≤ i → sets l i a ≡ l
+sets-past [] l i h = refl
+sets-past (b ∷ a) l i h = ap (λ m. sets m (suc i) a) (set-past l i b h) ∙ sets-past a l (suc i) (omega arith)
+
+-- a text past the end is counted and not stored
+pub counted : (l : List ℕ) (at to : ℕ) (a : List ℕ) → length l ≤ at → to ≡ at + length a → Put l at a l to
+counted l at to a h e = record { end = e; list = sym (sets-past a l at h) }
+
 -- one text after another
 pub then : {l m n : List ℕ} {at to next : ℕ} {a b : List ℕ} → Put l at a m to → Put m to b n next → Put l at (a ++ b) n next
 then {l} {m} {n} {at} {to} {next} {a} {b} p q = record {

@@ -1,5 +1,6 @@
 // A number as decimal text, written into a lent buffer. What would fall past the buffer's end is counted and not stored.
 mod bytes;
+mod lengths;
 mod rounding;
 mod writing;
 

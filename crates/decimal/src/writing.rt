@@ -8,6 +8,8 @@ ghost use Rattle.real.specs.Limit.{inLimit};
 ghost use Rattle.decimal.specs.Put.{Put};
 ghost use Rattle.decimal.specs.Text.{wholeText, fractionText, sizeText, floatText};
 use crate::bytes::put;
+use crate::lengths::fraction_length;
+use crate::lengths::whole_length;
 use crate::rounding::negative;
 use crate::rounding::thousandths;
 
@@ -51,11 +53,14 @@ fn put_fraction(out: &mut [u8], at: usize, f: u64) -> usize
     put_digit(out, hundredths, f % 10)
 }
 
-// Puts the whole part of t thousandths, and their decimals.
+// Puts the whole part of t thousandths, and their decimals. Past the list's end only their length is wanted.
 fn put_size(out: &mut [u8], at: usize, t: u64) -> usize
     requires { ⌜ (t < 10 ^ 9) × (at + 10 < 2 ^ 64) ⌝ }
     ensures { λ r. ⌜ Put (now (out .entry)) at (sizeText t) (now (out .exit)) r ⌝ }
 {
+    if out.len() <= at {
+        return at + whole_length(t / 1000) + fraction_length(t);
+    }
     let point = put_whole(out, at, t / 1000);
     put_fraction(out, point, t % 1000)
 }

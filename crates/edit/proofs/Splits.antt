@@ -170,7 +170,7 @@ module _ (xs : List Float) (n a b : ℕ) (t : Float) where
     beside : (k g i : ℕ) → i < 6 → (k ≡ g → ⊥) → (k * 6 + i < g * 6) ⊎ (g * 6 + 6 ≤ k * 6 + i)
     beside k g i m ne = ⊎-elim (λ h. inr (⊎-elim (λ (e : k ≤ g). absurd (ne (omega arith))) (λ (e : g < k). omega arith) (order k g))) (λ h. inl (omega arith)) (order g k)
 
-    number : (k i : ℕ) → k < n + 1 → i < 6 → entry stored (k * 6 + i) ≡ entry (numbers (splitAnchors (anchorAt xs) a b t k)) i
+    pub number : (k i : ℕ) → k < n + 1 → i < 6 → entry stored (k * 6 + i) ≡ entry (numbers (splitAnchors (anchorAt xs) a b t k)) i
     unfolding splitAnchors
     number k i l m =
         ⊎-elim

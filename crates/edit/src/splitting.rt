@@ -55,7 +55,7 @@ pub fn halves(a: Anchor, b: Anchor, t: f64) -> Halved
 }
 
 // The index that j has once an anchor is put in after a.
-fn shifted(a: usize, j: usize) -> usize
+pub fn shifted(a: usize, j: usize) -> usize
     requires { ⌜ j < 1024 ⌝ }
     ensures { λ r. ⌜ r ≡ shifted a j ⌝ }
 {
@@ -66,7 +66,7 @@ fn shifted(a: usize, j: usize) -> usize
 }
 
 // The first place that breaks the limit, where the three anchors go to a, a + 1 and b.
-fn first_out(h: Halved, a: usize, b: usize) -> Found
+pub fn first_out(h: Halved, a: usize, b: usize) -> Found
     requires { ⌜ (a < 1024) × (a ≡ b → ⊥) × (a + 1 ≡ b → ⊥) ⌝ }
     ensures { λ r. ⌜ ((n : ℕ) → a + 1 < n → b < n → r ≡ firstBad (putsWithin h a b) n) ⌝ }
 {
@@ -90,7 +90,7 @@ fn first_out(h: Halved, a: usize, b: usize) -> Found
 }
 
 // Puts a new anchor into the segment between two places of a path of n anchors.
-fn put_halves(anchors: &mut [f64], n: usize, a: usize, b: usize, h: Halved)
+pub fn put_halves(anchors: &mut [f64], n: usize, a: usize, b: usize, h: Halved)
     requires { ⌜ (n < 512) × (n * 6 + 6 ≤ length (now anchors)) × (a < n) × (b < n) × (a ≡ b → ⊥) ⌝ }
     ensures { λ _. ⌜ now (anchors .exit) ≡ putAnchor (putAnchor (putAnchor (gapped (now (anchors .entry)) (a + 1) n 6) a (h .left)) (a + 1) (h .middle)) (shifted a b) (h .right) ⌝ }
 {
@@ -104,7 +104,7 @@ fn put_halves(anchors: &mut [f64], n: usize, a: usize, b: usize, h: Halved)
 }
 
 // One anchor more in subpath s.
-fn count_up(shapes: &mut [u32], s: usize)
+pub fn count_up(shapes: &mut [u32], s: usize)
     requires { ⌜ (s < length (now shapes)) × (countOf (wordAt (now shapes) s) < 512) ⌝ }
     ensures { λ _. ⌜ now (shapes .exit) ≡ splitShapes (now (shapes .entry)) s ⌝ }
 {

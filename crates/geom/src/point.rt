@@ -39,6 +39,19 @@ impl P {
         self.sub(o).len()
     }
 
+    // The same two, where `hint` may be the answer: whatever it is, the contract is theirs.
+    pub fn len_near(self, hint: f64) -> f64
+        ensures { λ r. ⌜ r ≡ len self ⌝ }
+    {
+        root::root_near(self.x * self.x + self.y * self.y, hint)
+    }
+
+    pub fn dist_near(self, o: P, hint: f64) -> f64
+        ensures { λ r. ⌜ r ≡ dist self o ⌝ }
+    {
+        self.sub(o).len_near(hint)
+    }
+
     // The point t of the way to o.
     pub fn lerp(self, o: P, t: f64) -> P
         ensures { λ r. ⌜ r ≡ lerp self o t ⌝ }

@@ -11,6 +11,10 @@ use Rattle.cubic_calls.specs.declared.answers.Point.{Point}
 use Rattle.cubic_calls.specs.declared.answers.Filled.{Filled}
 use Rattle.call.specs.declared.answers.Outline.{Outline}
 use Rattle.call.specs.declared.answers.Outline.the-variants as outline
+use Rattle.session.specs.declared.answers.Edited.{Edited}
+use Rattle.session.specs.declared.answers.Edited.the-variants as edited
+use Rattle.replay.specs.declared.calls.Replayed.{Replayed}
+use Rattle.replay.specs.declared.calls.Replayed.the-variants as replayed
 use Rattle.corner_calls.specs.declared.calls.Corners.{Corners}
 use Rattle.corner_calls.specs.declared.calls.Corners.the-variants as corners
 use Rattle.svg.specs.declared.calls.Answer.{Answer}
@@ -21,6 +25,8 @@ use Rattle.hit.specs.declared.segments.HitSegment.{HitSegment}
 use Rattle.hit.specs.declared.segments.HitSegment.the-variants as segment
 use Rattle.hit.specs.declared.boxes.Extent.{Extent}
 use Rattle.hit.specs.declared.boxes.Extent.the-variants as extent
+use Rattle.job.specs.declared.call.Job.{Job}
+use Rattle.job.specs.declared.call.Job.the-variants as job
 use Rattle.cubic_calls.specs.declared.answers.Number.the-variants as number
 use Rattle.cubic_calls.specs.declared.answers.Point.the-variants as located
 use Rattle.cubic_calls.specs.declared.answers.Filled.the-variants as filled
@@ -87,6 +93,24 @@ unfoldable pub outlineWords : Outline → List ℕ
 outlineWords (outline.Refused n place) = words place 0
 outlineWords (outline.Accepted subpaths count) = 0 ∷ count ∷ subpaths ∷ 0 ∷ []
 
+-- ---- an edit of a drawing and its cache
+unfoldable pub editedCode : Edited → ℕ
+editedCode (edited.Refused n place) = n
+editedCode (edited.Accepted recut count) = 0
+
+unfoldable pub editedWords : Edited → List ℕ
+editedWords (edited.Refused n place) = words place 0
+editedWords (edited.Accepted recut count) = 0 ∷ count ∷ 0 ∷ recut ∷ []
+
+-- ---- a list of calls
+unfoldable pub replayedCode : Replayed → ℕ
+replayedCode (replayed.Refused n place) = n
+replayedCode (replayed.Done count) = 0
+
+unfoldable pub replayedWords : Replayed → List ℕ
+replayedWords (replayed.Refused n place) = words place 0
+replayedWords (replayed.Done count) = words 0 count
+
 -- ---- corners in lists
 unfoldable pub cornersCode : Corners → ℕ
 cornersCode (corners.Refused n place) = n
@@ -139,3 +163,12 @@ unfoldable pub cornersLeft : Extent → List Float → List Float
 cornersLeft (extent.Refused n place) old = old
 cornersLeft extent.Empty old = old
 cornersLeft (extent.Box least greatest) old = least .x ∷ least .y ∷ greatest .x ∷ greatest .y ∷ []
+
+-- ---- a job in lists: the words place, anchors, subpaths, kind
+unfoldable pub jobCode : Job → ℕ
+jobCode (job.Refused n place) = n
+jobCode (job.Read kind subpaths count) = 0
+
+unfoldable pub jobWords : Job → List ℕ
+jobWords (job.Refused n place) = words place 0
+jobWords (job.Read kind subpaths count) = 0 ∷ count ∷ subpaths ∷ kind ∷ []

@@ -17,7 +17,9 @@ mod corners;
 mod edits;
 mod hits;
 mod jobs;
+mod joins;
 mod paths;
+mod sessions;
 mod shapes;
 
 // The control points of a cubic, from eight numbers, x before y.

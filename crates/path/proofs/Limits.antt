@@ -1,19 +1,21 @@
 -- The first bad place is the least one, and what makes a place good or bad. Assumes nothing.
 use mathlib.Core.Path.{_≡_, refl, sym, _∙_}
 use mathlib.Core.Logic.{_↔_, _⊎_, inl, inr}
-use mathlib.Core.Bool.{Bool, true, false}
+use mathlib.Core.Bool.{Bool, true, false, _&&_}
 use mathlib.Core.List.{List}
 use Prim.Native.Nat.{ℕ, zero, suc, _+_, _*_, _<_}
 use native.Mathlib.Nat.{le-refl}
 use native.Mathlib.Numerals.{add-one}
 use native.Mathlib.Omega.{arith}
-use lib.Ieee.{Float}
+use lib.Ieee.{Float, binary64, ofBits, neg}
 use borrow.Author.Count.{below-none, below-more}
 use borrow.Author.Tests.{lt-ltb, le-ltb}
 use Rattle.views.specs.View.{entry}
-use Rattle.views.proofs.Searches.{all-true, all-false, and-false, first-all, first-at}
+use Rattle.views.specs.Search.{all}
+use Rattle.views.proofs.Searches.{both, all-true, all-false, all-says, and-false, first-all, first-at}
 use Rattle.real.specs.Limit.{inLimit}
-use Rattle.path.specs.Limit.{anchorIn, placeIn, firstBad}
+use Rattle.real.proofs.Limits.{in-limit}
+use Rattle.path.specs.Limit.{withinLimit, anchorIn, placeIn, firstBad}
 use Rattle.path.specs.declared.limit.Found.the-variants.{At, Nothing}
 
 -- ---- the least place
@@ -90,3 +92,19 @@ module _ (anchors : List Float) (k : ℕ) where
     pub radius-out : inLimit (entry radii k) ≡ false → placeIn anchors radii k ≡ false
     unfolding placeIn
     radius-out r = rw (r, and-false)
+
+-- ---- the places of numbers that are all in limit are good
+pub within-is : (x : Float) → withinLimit (ofBits binary64 0x4100_0000_0000_0000) x ≡ inLimit x
+unfolding withinLimit ofBits neg
+within-is x = in-limit x
+
+abbrev InLimit : List Float → ℕ → Bool
+InLimit xs n = all (λ i. inLimit (entry xs i)) n
+
+pub anchors-in : (anchors : List Float) (n : ℕ) → InLimit anchors (n * 6) ≡ true → GoodBelow (anchorIn anchors) n
+anchors-in anchors n e k l = anchor-in anchors k (λ i h. all-says _ (n * 6) e (k * 6 + i) (omega arith))
+
+pub places-in : (anchors radii : List Float) (n : ℕ) → (InLimit anchors (n * 6) && InLimit radii n) ≡ true → GoodBelow (placeIn anchors radii) n
+places-in anchors radii n e k l =
+    let h = both (InLimit anchors (n * 6)) (InLimit radii n) e in
+    place-in anchors k radii (anchors-in anchors n (h .0) k l) (all-says _ n (h .1) k l)

@@ -3,12 +3,16 @@ use Prim.Native.Nat.{ℕ, _+_, _*_}
 use mathlib.Core.Bool.{Bool, _&&_, cond}
 use mathlib.Core.List.{List}
 use lib.Dec.{ltb}
-use lib.Ieee.{Float}
+use lib.Ieee.{Float, le, neg}
 use Rattle.views.specs.View.{entry}
 use Rattle.views.specs.Search.{all, firstFalse}
 use Rattle.real.specs.Limit.{inLimit}
 use Rattle.path.specs.declared.limit.Found.{Found}
 use Rattle.path.specs.declared.limit.Found.the-variants.{At, Nothing}
+
+-- x is a number of magnitude at most `limit`
+unfoldable pub withinLimit : Float → Float → Bool
+withinLimit limit x = le (neg limit) x && le x limit
 
 -- the six numbers of the anchor at place k
 unfoldable pub anchorIn : List Float → ℕ → Bool

@@ -12,6 +12,7 @@ pub use distance::within;
 pub use flat::anchor_at;
 pub use flat::put_anchor;
 pub use limit::Found;
+pub use limit::all_within;
 pub use limit::first_bad_anchor;
 pub use limit::first_bad_place;
 pub use shape::Sized;

@@ -82,7 +82,7 @@ module _ (j : Job) (w : Within j) where
       }
 
 -- ---- what a file is read as
-file-sound : (bytes : List ℕ) (j : Job) → fileRead bytes ≡ accepted j → Within j
+pub file-sound : (bytes : List ℕ) (j : Job) → fileRead bytes ≡ accepted j → Within j
 unfolding fileRead
 file-sound bytes j = go (eqb (length bytes % 4) 0)
   where
@@ -114,7 +114,7 @@ pub record Given (bytes shapes : List ℕ) (anchors radii : List Float) (kind m 
   pub few : n ≤ 512
 
 module _ (bytes shapes : List ℕ) (anchors radii : List Float) (wide : length shapes ≡ 32) (long : length anchors ≡ 3072) (each : length radii ≡ 512) where
-  refuses : {n place : ℕ} → fileRead bytes ≡ refused n place → readAnswer bytes shapes anchors radii ≡ answer.Refused n place
+  pub refuses : {n place : ℕ} → fileRead bytes ≡ refused n place → readAnswer bytes shapes anchors radii ≡ answer.Refused n place
   unfolding readAnswer outcome roomed answerOf
   refuses e = rw e
 
@@ -127,7 +127,7 @@ module _ (bytes shapes : List ℕ) (anchors radii : List Float) (wide : length s
     unfolding outcome roomed
     outcome-is = rw (e, has-room)
 
-    accepts : readAnswer bytes shapes anchors radii ≡ answer.Read (j .kind) (length (j .subpaths)) (length (jobAnchors j))
+    pub accepts : readAnswer bytes shapes anchors radii ≡ answer.Read (j .kind) (length (j .subpaths)) (length (jobAnchors j))
     unfolding readAnswer answerOf
     accepts = rw outcome-is
 

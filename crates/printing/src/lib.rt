@@ -5,3 +5,5 @@ mod path_line;
 mod refused;
 
 pub use job_line::print;
+pub use path_line::put_path;
+pub use refused::put_refused;

@@ -6,11 +6,13 @@ use native.Mathlib.Omega.{arith}
 use mathlib.Core.Bool.{false}
 use lib.Dec.{T}
 use lib.Pow.{pow-add, pow-pos, pow-mono, shl-lt, shl-exact}
+use lib.Bits.{bitAnd, and-mask}
 use lib.Count.{leadingZeros, leading-top}
 use lib.Ieee.{Float, binary64, fits, ofBits, toBits}
 use lib.Ieee.Bits.{ofBits-toBits}
 use lib.Ieee.Exact.{HasValue}
 use lib.Ieee.Positive.{num, den, positive, own-value, value-pos}
+use Rattle.root.specs.Root.{rootOf}
 use Rattle.root.proofs.Values.{units-of}
 use Rattle.root.proofs.Patterns.{normal-value, subnormal-value, pattern-in}
 
@@ -50,6 +52,13 @@ normal-form t f F =
     mul-assoc (2 ^ 52 + t) (2 ^ (f - 1)) (2 ^ 53)
     ∙ ap (λ (x : ℕ). (2 ^ 52 + t) * x) (sym (pow-add 2 (f - 1) 53) ∙ ap (λ (x : ℕ). 2 ^ x) k)
     ∙ ap (λ (x : ℕ). x * 2 ^ (f + 52)) (add-comm (2 ^ 52) t)
+
+-- what is the root of every number with the digits of a normal one is that one's root
+pub normal-root : (b : ℕ) (r : Float) → 2 ^ 52 ≤ b → b < 2047 * 2 ^ 52
+    → ((x : Float) (n : ℕ) → HasValue x false n (2 ^ 1074) → n * 2 ^ 53 ≡ (bitAnd b (2 ^ 52 - 1) + 2 ^ 52) * 2 ^ (b / 2 ^ 52 + 52) → rootOf x ≡ r) → rootOf (ofBits binary64 b) ≡ r
+normal-root b r lo hi h =
+    let f = b / 2 ^ 52 in
+    h (ofBits binary64 b) ((2 ^ 52 + b % 2 ^ 52) * 2 ^ (f - 1)) (normal-value b lo hi) (normal-form (b % 2 ^ 52) f (omega arith) ∙ ap (λ (x : ℕ). (x + 2 ^ 52) * 2 ^ (f + 52)) (sym (and-mask b 52)))
 
 -- ---- any positive value, n units: n * 2 ^ 53 is m * 2 ^ p
 pub record Form (x : Float) : Type 0 where

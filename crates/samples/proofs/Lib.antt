@@ -1,1 +1,3 @@
+pub mod CutSquare
+pub mod Prints
 pub mod Holds

@@ -1,4 +1,4 @@
--- Document 01's starred sample pieces that exist so far, in one table: what the definitions give beside what the document writes. Assumes nothing.
+-- Document 01's starred sample pieces, in one table: what the definitions give beside what the document writes. Assumes nothing.
 use Prim.Native.Nat.{ℕ}
 use mathlib.Core.Bool.{true, false}
 use mathlib.Core.List.{List, [], _∷_, map}
@@ -13,6 +13,8 @@ use Rattle.cubic.specs.Cubic.{four, cubicAt}
 use Rattle.cubic.specs.DeCasteljau.{curveBefore}
 use Rattle.decimal.specs.Text.{floatText}
 use Rattle.cut.specs.Near.{nearCount}
+use Rattle.printing.specs.Printed.{printed}
+use Rattle.samples.specs.Written.{ascii, bytesOf}
 
 -- a piece, as the definitions give it and as document 01 writes it: bits of numbers, bytes of a text, or a count
 pub record Piece : Type 0 where
@@ -45,6 +47,14 @@ less-than-half = ofBits binary64 0xBF3A_36E2_EB1C_432D
 abbrev arch : List P
 arch = four origin (point 0f 4f) (point 4f 4f) (point 4f 0f)
 
+-- the job of a square, with this head
+abbrev pub squareJob : ℕ → List ℕ
+squareJob head =
+    bytesOf
+    (head ∷ 0x1000_0001 ∷ 0x2000_0000 ∷ 0x3000_0000 ∷ 0x8000_0800 ∷ 0x2000_2000 ∷ 0x3000_0000 ∷ 0x2000_2000 ∷ 0x3000_2000 ∷ 0x2000_0000 ∷ 0x3000_2000
+    ∷ 0xF000_0000
+    ∷ [])
+
 unfoldable pub pieces : List Piece
 unfolding bits
 pieces =
@@ -62,11 +72,15 @@ pieces =
       written = 0 ∷ 0 ∷ 0 ∷ 0x4000_0000_0000_0000 ∷ 0x3FF0_0000_0000_0000 ∷ 0x4008_0000_0000_0000 ∷ 0x4000_0000_0000_0000 ∷ 0x4008_0000_0000_0000 ∷ [];
     }
     -- 0.0625 writes 0.062
-    ∷ record { given = floatText sixteenth; written = 48 ∷ 46 ∷ 48 ∷ 54 ∷ 50 ∷ [] }
+    ∷ record { given = floatText sixteenth; written = ascii "0.062" }
     -- 0.1875 writes 0.188
-    ∷ record { given = floatText three-sixteenths; written = 48 ∷ 46 ∷ 49 ∷ 56 ∷ 56 ∷ [] }
+    ∷ record { given = floatText three-sixteenths; written = ascii "0.188" }
     -- -0.0004 writes 0
-    ∷ record { given = floatText less-than-half; written = 48 ∷ [] }
+    ∷ record { given = floatText less-than-half; written = ascii "0" }
+    -- what the job prints; with head 0; with head 1
+    ∷ record { given = printed (squareJob 2); written = ascii "M2 0 L8 0 L8 8 L0 8 L0 2 Z" }
+    ∷ record { given = printed (squareJob 0); written = ascii "M2 0 L8 0 L8 8 L0 8 L0 2 C0 0.895 0.895 0 2 0 Z" }
+    ∷ record { given = printed (squareJob 1); written = ascii "M2 0 L8 0 L8 8 L0 8 L0 2 C1.105 2 2 1.105 2 0 Z" }
     -- recut: closed 8, move 7, radius 5; closed 5, move 5
     ∷ record { given = nearCount 3 8 true 0 ∷ nearCount 2 8 true 0 ∷ nearCount 3 5 true 0 ∷ []; written = 7 ∷ 5 ∷ 5 ∷ [] }
     -- open 10, move of anchor 0, 4; split at segment 0, 6

@@ -4,6 +4,8 @@ use cubic_calls::Filled;
 use cubic_calls::Number;
 use cubic_calls::Point;
 use geom::P;
+use path::Anchor;
+use session::Edited;
 use svg::Answer;
 
 // The bits of x: all zero for a NaN, which no piece has.
@@ -164,6 +166,80 @@ fn many(label: &[u8], word: u32) {
     say(b"\n");
 }
 
+fn edited(label: &[u8], a: Edited) {
+    say(label);
+    match a {
+        Edited::Refused(n, place) => refused(n, place),
+        Edited::Accepted(recut, count) => {
+            io::write_all(1, b" ");
+            io::print_decimal(1, recut as u64);
+        }
+    }
+    say(b"\n");
+}
+
+// How many places an edit recuts does not turn on where the anchors are: here they are all in one point.
+fn recuts_of_move(label: &[u8], word: u32) {
+    let shapes = [word];
+    let mut anchors = [0.0f64; 60];
+    let radii = [0.0f64; 10];
+    let mut numbers = [0.0f64; 120];
+    let mut flags = [0u32; 10];
+    let new = Anchor::corner(P::new(1.0, 1.0));
+    let a = cached::move_anchor(
+        &shapes,
+        &mut anchors,
+        &radii,
+        0,
+        &mut numbers,
+        &mut flags,
+        0,
+        0,
+        new,
+    );
+    edited(label, a);
+}
+
+fn recuts_of_radius(label: &[u8], word: u32) {
+    let shapes = [word];
+    let anchors = [0.0f64; 60];
+    let mut radii = [0.0f64; 10];
+    let mut numbers = [0.0f64; 120];
+    let mut flags = [0u32; 10];
+    let a = cached::set_radius(
+        &shapes,
+        &anchors,
+        &mut radii,
+        0,
+        &mut numbers,
+        &mut flags,
+        0,
+        0,
+        1.0,
+    );
+    edited(label, a);
+}
+
+fn recuts_of_split(label: &[u8], word: u32) {
+    let mut shapes = [word];
+    let mut anchors = [0.0f64; 66];
+    let mut radii = [0.0f64; 11];
+    let mut numbers = [0.0f64; 132];
+    let mut flags = [0u32; 11];
+    let a = cached::split_segment(
+        &mut shapes,
+        &mut anchors,
+        &mut radii,
+        0,
+        &mut numbers,
+        &mut flags,
+        0,
+        0,
+        0.5,
+    );
+    edited(label, a);
+}
+
 fn main() {
     say(b"root 2");
     number(root::root(2.0));
@@ -185,4 +261,9 @@ fn main() {
     square(b"square, radius 1e-9", &[1e-9, 1e-9, 1e-9, 1e-9], 2);
     many(b"512 anchors", 512);
     many(b"513 anchors", 513);
+    recuts_of_move(b"closed 8, move", 2147483656);
+    recuts_of_radius(b"closed 8, radius", 2147483656);
+    recuts_of_move(b"closed 5, move", 2147483653);
+    recuts_of_move(b"open 10, move of anchor 0", 10);
+    recuts_of_split(b"open 10, split at segment 0", 10);
 }

@@ -1,2 +1,4 @@
 pub mod Laid
+pub mod Magnitudes
+pub mod Staying
 pub mod Outcomes

@@ -8,16 +8,16 @@ use lib.ListN.{length, getD}
 use lib.Ieee.{Float}
 use Rattle.views.specs.View.{overwrite, tabulate}
 use Rattle.views.proofs.Laws.{length-tabulate}
-use Rattle.refusal.specs.Order.{holds, judge, Verdict, accepted, refused}
+use Rattle.refusal.specs.Order.{passes, holds, judge, Verdict, accepted, refused}
 use Rattle.refusal.proofs.Verdicts.{holds-true, holds-false, in-order, by-arguments}
 use Rattle.path.specs.Shape.{total}
 use Rattle.path.specs.Flat.{anchorNumbers, listed}
-use Rattle.call.specs.declared.answers.Outline.the-variants.{Refused}
+use Rattle.call.specs.declared.answers.Outline.the-variants.{Refused, Accepted}
 use Rattle.call.specs.declared.opening.Opened.the-variants as opened
 use Rattle.call.specs.Tests.{outlineLimit, roomFor, openedPath}
 use Rattle.call.specs.Answers.{outlineAnswer, listLeft, anchorsLeft, handedVerdict, handedAnswer, handedShapes, handedAnchors}
 use Rattle.call.proofs.Openings.{PathOpens, path-refused}
-use Rattle.call.proofs.Handings.{outline-refused, list-kept, anchors-kept, listed-verdict, listed-anchors}
+use Rattle.call.proofs.Handings.{outline-refused, outline-accepted, list-kept, list-written, anchors-kept, anchors-written, listed-verdict, listed-anchors}
 use Rattle.transform.specs.Mapped.{mappedAt, mappedPath, mapIn}
 use Rattle.transform.specs.Call.{transformVerdict, transformAnswer, transformShapes, transformAnchors}
 use Rattle.transform.proofs.Laid.{listed-table}
@@ -43,6 +43,28 @@ module _ (shapes : List ℕ) (anchors m : List Float) (toShapes : List ℕ) (to 
           ≡ judge (outlineLimit (mappedPath m shapes anchors)) 9 (judge (holds (roomFor (length shapes) (total shapes) toShapes to) 0) 8 accepted)
       unfolding transformVerdict judge
       passes-on = in-order _ _ _ _ _ _ ∙ rw (o .lists-pass, o .places-good (mapIn m), holds-true (total shapes) e)
+
+      -- where 9 is known to pass, 8 alone is left
+      module _ (p9 : outlineLimit (mappedPath m shapes anchors) ≡ passes) where
+        pub no-room : roomFor (length shapes) (total shapes) toShapes to ≡ false → transformVerdict shapes anchors m toShapes to ≡ refused 8 0
+        unfolding judge
+        no-room r = passes-on ∙ rw (p9, holds-false 0 r)
+
+        room-left : roomFor (length shapes) (total shapes) toShapes to ≡ true → transformVerdict shapes anchors m toShapes to ≡ accepted
+        unfolding judge
+        room-left r = passes-on ∙ rw (p9, holds-true 0 r)
+
+        pub written : roomFor (length shapes) (total shapes) toShapes to ≡ true
+            → (Accepted (length shapes) (total shapes) ≡ transformAnswer shapes anchors m toShapes to)
+            × (overwrite (length shapes) (λ i. getD shapes i 0) toShapes ≡ transformShapes shapes anchors m toShapes to)
+            × (overwrite (total shapes * 6) (anchorNumbers (mappedAt m anchors)) to ≡ transformAnchors shapes anchors m toShapes to)
+        unfolding transformAnswer transformShapes transformAnchors mappedPath
+        written r =
+            let v = room-left r in (
+              outline-accepted _ _ v,
+              list-written _ _ _ v,
+              listed-table (total shapes) (mappedAt m anchors) to ∙ anchors-written _ _ v,
+            )
 
       module _ (xs made : List Float) (room : 3072 ≤ length xs) (w : made ≡ overwrite (n * 6) (anchorNumbers (mappedAt m anchors)) xs) where
         count : length (mappedPath m shapes anchors) ≡ total shapes

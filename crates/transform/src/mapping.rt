@@ -30,8 +30,8 @@ fn mapped(m: [f64; 6], a: Anchor) -> Anchor
 }
 
 // The first n anchors of a list, mapped, to the front of another.
-pub fn map_anchors(m: [f64; 6], anchors: &[f64], n: usize, made: &mut [f64; 3072])
-    requires { ⌜ (n ≤ 512) × (n * 6 ≤ length (now anchors)) ⌝ }
+pub fn map_anchors(m: [f64; 6], anchors: &[f64], n: usize, made: &mut [f64])
+    requires { ⌜ (n ≤ 512) × (n * 6 ≤ length (now anchors)) × (n * 6 ≤ length (now made)) ⌝ }
     ensures { λ _. ⌜ now (made .exit) ≡ overwrite (n * 6) (anchorNumbers (mappedAt m (now (anchors .entry)))) (now (made .entry)) ⌝ }
 {
     for k in 0..n {

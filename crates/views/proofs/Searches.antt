@@ -1,9 +1,12 @@
 -- Laws of the searches. Assumes nothing.
 use mathlib.Core.Path.{_≡_, refl, sym, ap, _∙_}
-use mathlib.Core.Bool.{Bool, true, false, _&&_, cond}
-use Prim.Native.Nat.{ℕ, zero, suc, _+_, _<_, zero-le, suc-le-suc}
+use mathlib.Core.Bool.{Bool, true, false, not, _&&_, cond, true≢false}
+use Prim.Native.Nat.{ℕ, zero, suc, _+_, _≤_, _<_, zero-le, suc-le-suc}
 use native.Mathlib.Nat.{le-of-suc-le-suc, not-suc-le-zero, le-refl, lt-trans, suc-add, add-zero}
 use native.Mathlib.Numerals.{add-one}
+use native.Mathlib.Omega.{arith}
+use lib.Dec.{eqb}
+use borrow.Author.Tests.{ne-eqb}
 use Rattle.views.specs.Search.{all, firstFalse, count}
 
 pub all-true : (p : ℕ → Bool) (n : ℕ) → ((k : ℕ) → k < n → p k ≡ true) → all p n ≡ true
@@ -20,6 +23,17 @@ unfolding all
 all-false p zero k l e = absurd (not-suc-le-zero l)
 all-false p (suc n) zero l e = rw e
 all-false p (suc n) (suc k) l e = rw (all-false (λ j. p (suc j)) n k (le-of-suc-le-suc l) e) (and-false (p zero))
+
+-- what passes on all passes at each
+pub both : (a b : Bool) → (a && b) ≡ true → (a ≡ true) × (b ≡ true)
+both true b e = (refl, e)
+both false b e = absurd (true≢false (sym e))
+
+pub all-says : (p : ℕ → Bool) (n : ℕ) → all p n ≡ true → (k : ℕ) → k < n → p k ≡ true
+unfolding all
+all-says p zero e k l = absurd (not-suc-le-zero l)
+all-says p (suc n) e zero l = both (p zero) (all (λ j. p (suc j)) n) e .0
+all-says p (suc n) e (suc k) l = all-says (λ j. p (suc j)) n (both (p zero) (all (λ j. p (suc j)) n) e .1) k (le-of-suc-le-suc l)
 
 -- tests that agree at every index agree on all
 pub all-cong : (p q : ℕ → Bool) (n : ℕ) → ((k : ℕ) → k < n → p k ≡ q k) → all p n ≡ all q n
@@ -66,6 +80,17 @@ first-count p (suc n) h = go (p zero) refl (first-count (λ k. p (suc k)) n (λ 
     go true e r = ap suc r
     go false e r = sym (count-none (λ k. p (suc k)) n (λ k l. stays p (suc n) h e (suc k) (suc-le-suc l)))
 
+-- all pass where none is counted that does not
+pub none-counted : (p : ℕ → Bool) (n : ℕ) → eqb (count (λ k. not (p k)) n) 0 ≡ all p n
+unfolding count all
+none-counted p zero = refl
+none-counted p (suc n) = go (p zero) (none-counted (λ k. p (suc k)) n)
+  where
+    go : (b : Bool) → eqb (count (λ k. not (p (suc k))) n) 0 ≡ all (λ k. p (suc k)) n
+        → eqb (cond (not b) (suc (count (λ k. not (p (suc k))) n)) (count (λ k. not (p (suc k))) n)) 0 ≡ (b && all (λ k. p (suc k)) n)
+    go true e = e
+    go false e = ne-eqb (suc (count (λ k. not (p (suc k))) n)) 0 (λ h. omega arith)
+
 -- ---- one place more
 count-suc : (p : ℕ → Bool) (n : ℕ) → count p (suc n) ≡ count p n + cond (p n) 1 0
 unfolding count
@@ -86,3 +111,11 @@ count-more p n e = sym (ap (count p) (add-one n) ∙ count-suc p n ∙ ap (λ b.
 
 pub count-same : (p : ℕ → Bool) (n : ℕ) → p n ≡ false → count p n ≡ count p (n + 1)
 count-same p n e = sym (ap (count p) (add-one n) ∙ count-suc p n ∙ ap (λ b. count p n + cond b 1 0) e ∙ add-zero (count p n))
+
+-- those from n on that do not pass are not counted
+pub count-idle : (p : ℕ → Bool) (n d : ℕ) → ((j : ℕ) → n ≤ j → j < n + d → p j ≡ false) → count p n ≡ count p (n + d)
+count-idle p n zero h = ap (count p) (sym (add-zero n))
+count-idle p n (suc d) h =
+    count-idle p n d (λ j l m. h j l (omega arith))
+    ∙ count-same p (n + d) (h (n + d) (omega arith) (omega arith))
+    ∙ ap (count p) (omega arith)

@@ -86,12 +86,12 @@ impl Input {
 
 /// The original's function as a call, which the library's cannot but be.
 #[inline(never)]
-fn original_cut_corners(path: &BezPath, radii: &[f64]) -> BezPath {
+pub fn original_cut_corners(path: &BezPath, radii: &[f64]) -> BezPath {
     cut_corners(path, |(_, i)| radii[i], CornerKind::Round)
 }
 
 /// Corners on both sides of a line and back; their handles, if any, do not make them smooth.
-fn zigzag(anchors: usize, curved: bool, random: &mut Random) -> (Drawing, BezPath) {
+pub fn zigzag(anchors: usize, curved: bool, random: &mut Random) -> (Drawing, BezPath) {
     let anchor = |k: usize| {
         let p = P::new(
             10.0 * k as f64,

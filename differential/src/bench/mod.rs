@@ -3,6 +3,7 @@
 
 mod bends;
 mod cuts;
+mod edits;
 mod hits;
 mod points;
 mod text;
@@ -31,6 +32,7 @@ pub fn run(random: &mut Random) {
     measure(points::Inputs::draw(random).races());
     measure(bends::Inputs::draw(random).races());
     measure(cuts::Inputs::draw(random).races());
+    measure(edits::Inputs::draw(random).races());
     measure(text::Inputs::draw(random).races());
     measure(hits::Inputs::draw(random).races());
 }
@@ -48,7 +50,7 @@ fn measure(mut races: Vec<Race>) {
     for (race, (ours, original)) in races.iter().zip(times) {
         let (ours, original) = (median(ours), median(original));
         let ratio = ours / original;
-        println!("{} {ratio:.2} ({ours:.1} ns, {original:.1} ns)", race.name);
+        println!("{} {ratio:.3} ({ours:.1} ns, {original:.1} ns)", race.name);
     }
 }
 

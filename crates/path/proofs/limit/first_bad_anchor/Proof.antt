@@ -1,6 +1,6 @@
 -- `path::limit::first_bad_anchor` meets its contract: the places passed are good, and the one it stops at is not. Assumes nothing.
 use Prim.Native.Nat.{ℕ, _≤_, _<_, _+_, _-_, _*_}
-use mathlib.Core.Path.{_≡_, refl, sym, _∙_}
+use mathlib.Core.Path.{_≡_, refl, sym, ap, _∙_}
 use mathlib.Core.Bool.{true}
 use borrow.Author.Needs.{needs}
 use borrow.Author.Count.{below-none, below-more}
@@ -8,12 +8,13 @@ use borrow.Author.Tests.{not-true, not-false}
 use native.Mathlib.Omega.{arith}
 use lib.ListN.{length}
 use Rattle.views.specs.View.{entry}
+use Rattle.views.specs.Search.{all}
 use Rattle.real.specs.Limit.{inLimit}
 use Rattle.path.specs.Shape.{total, start}
 use Rattle.path.specs.Limit.{anchorIn}
 use Rattle.path.specs.declared.limit.Found.the-variants.{Nothing}
 use Rattle.path.proofs.Shapes.{total-next, total-in, total-end}
-use Rattle.path.proofs.Limits.{GoodBelow, first-is, none-is, anchor-in, anchor-out}
+use Rattle.path.proofs.Limits.{GoodBelow, first-is, none-is, anchor-in, anchor-out, anchors-in}
 use Rattle.path.proofs.limit.first_bad_anchor.Statement.{statement}
 use Rattle.path.proofs.limit.first_bad_anchor.Tie as tie
 
@@ -41,13 +42,20 @@ Inv-path shapes anchors k₀ found₀ s₀ s-end k found s =
 abbrev μ-path : tie.MeasureT-path
 μ-path shapes anchors k₀ found₀ s₀ s-end k found s = length shapes - s
 
+-- no number is out of limit
+returns : tie.Need-returns Inv-loop2 μ-loop2 Inv-loop μ-loop Inv-path μ-path
+returns c =
+    let a = c .before .before .before .before .before .args in
+    let in-limits = ap (λ n. all (λ i. inLimit (entry (a .anchors .now) i)) (n * 6)) (sym (c .before .before .total-of .ensures)) ∙ sym (c .before .all-in-limit .ensures) ∙ c .if1 .taken in
+    sym (none-is _ _ .1 (anchors-in (a .anchors .now) _ in-limits))
+
 path-holds : tie.Need-path-holds Inv-loop2 μ-loop2 Inv-loop μ-loop Inv-path μ-path
 path-holds c = (search needs, search needs, refl, refl, below-none _)
 
 loop-holds : tie.Need-loop-holds Inv-loop2 μ-loop2 Inv-loop μ-loop Inv-path μ-path
 loop-holds c =
     let p = c .before .before .before in
-    (omega arith, omega arith, p .path .inv .3, omega (arith, total-in (p .before .before .before .args .shapes .now) (p .path .s) (omega arith)), p .path .inv .4)
+    (omega arith, omega arith, p .path .inv .3, omega (arith, total-in (p .before .before .before .before .before .before .args .shapes .now) (p .path .s) (omega arith)), p .path .inv .4)
 
 loop2-holds : tie.Need-loop2-holds Inv-loop2 μ-loop2 Inv-loop μ-loop Inv-path μ-path
 loop2-holds c = (omega arith, c .before .loop .inv .2, omega arith, below-none _)
@@ -55,7 +63,7 @@ loop2-holds c = (omega arith, c .before .loop .inv .2, omega arith, below-none _
 loop2-again : tie.Need-loop2-again Inv-loop2 μ-loop2 Inv-loop μ-loop Inv-path μ-path
 loop2-again c =
     let w = c .before .before .before .before .loop2 in
-    (omega arith, w .inv .1, w .inv .2, below-more _ _ (w .inv .3) (sym (c .before .in-limit .ensures) ∙ not-false _ (c .if1 .left)))
+    (omega arith, w .inv .1, w .inv .2, below-more _ _ (w .inv .3) (sym (c .before .in-limit .ensures) ∙ not-false _ (c .if2 .left)))
 
 loop-again : tie.Need-loop-again Inv-loop2 μ-loop2 Inv-loop μ-loop Inv-path μ-path
 loop-again c =
@@ -67,19 +75,19 @@ path-again : tie.Need-path-again Inv-loop2 μ-loop2 Inv-loop μ-loop Inv-path μ
 path-again c =
     let l = c .before .loop in
     let p = c .before .before .before .before .before in
-    (omega arith, refl, omega (arith, total-next (p .before .before .before .args .shapes .now) (p .path .s) (omega arith)), l .inv .2, l .inv .4)
-
-returns : tie.Need-returns Inv-loop2 μ-loop2 Inv-loop μ-loop Inv-path μ-path
-returns c =
-    let p = c .before in
-    let end = total-end (p .before .before .before .args .shapes .now) (p .path .s) (omega arith) in
-    p .path .inv .3 ∙ sym (none-is _ _ .1 (λ j h. p .path .inv .4 j (omega (arith, end))))
+    (omega arith, refl, omega (arith, total-next (p .before .before .before .before .before .before .args .shapes .now) (p .path .s) (omega arith)), l .inv .2, l .inv .4)
 
 returns-2 : tie.Need-returns-2 Inv-loop2 μ-loop2 Inv-loop μ-loop Inv-path μ-path
 returns-2 c =
+    let p = c .before in
+    let end = total-end (p .before .before .before .before .before .before .args .shapes .now) (p .path .s) (omega arith) in
+    p .path .inv .3 ∙ sym (none-is _ _ .1 (λ j h. p .path .inv .4 j (omega (arith, end))))
+
+returns-3 : tie.Need-returns-3 Inv-loop2 μ-loop2 Inv-loop μ-loop Inv-path μ-path
+returns-3 c =
     let w = c .before .before .before .before in
     let l = w .before .before .loop in
-    let out = anchor-out _ (l .k) (w .loop2 .i) (omega arith) (sym (c .before .in-limit .ensures) ∙ not-true _ (c .if1 .taken)) in
+    let out = anchor-out _ (l .k) (w .loop2 .i) (omega arith) (sym (c .before .in-limit .ensures) ∙ not-true _ (c .if2 .taken)) in
     sym (first-is _ _ _ .1 (record { place = w .loop2 .inv .2; bad = out; below = l .inv .4 }))
 
 pub first-bad-anchor-spec : {M : Type 1} → statement M
@@ -92,6 +100,10 @@ first-bad-anchor-spec =
     μ-loop
     Inv-path
     μ-path
+    (λ c κs. search needs)
+    (λ c. search needs)
+    (λ c κs. search needs)
+    returns
     path-holds
     (λ c. search needs)
     (λ c. search needs)
@@ -113,5 +125,5 @@ first-bad-anchor-spec =
     (λ c. search needs)
     (λ c. search needs)
     path-again
-    returns
-    returns-2)
+    returns-2
+    returns-3)

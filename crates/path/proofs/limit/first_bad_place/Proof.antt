@@ -13,7 +13,7 @@ use Rattle.path.specs.Shape.{total, start}
 use Rattle.path.specs.Limit.{placeIn}
 use Rattle.path.specs.declared.limit.Found.the-variants.{Nothing}
 use Rattle.path.proofs.Shapes.{total-next, total-in, total-end}
-use Rattle.path.proofs.Limits.{GoodBelow, first-is, none-is, anchor-in, anchor-out, place-in, place-out, radius-out}
+use Rattle.path.proofs.Limits.{GoodBelow, first-is, none-is, anchor-in, anchor-out, place-in, place-out, radius-out, places-in}
 use Rattle.path.proofs.limit.first_bad_place.Statement.{statement}
 use Rattle.path.proofs.limit.first_bad_place.Tie as tie
 
@@ -41,13 +41,20 @@ Inv-path shapes anchors radii k₀ found₀ s₀ s-end k found s =
 abbrev μ-path : tie.MeasureT-path
 μ-path shapes anchors radii k₀ found₀ s₀ s-end k found s = length shapes - s
 
+-- no number is out of limit
+returns : tie.Need-returns Inv-loop2 μ-loop2 Inv-loop μ-loop Inv-path μ-path
+returns c =
+    let a = c .before .before .before .before .before .before .args in
+    let in-limits = sym (c .before .drawing-in-limit .ensures) ∙ c .if1 .taken in
+    sym (none-is _ _ .1 (λ j h. places-in (a .anchors .now) (a .radii .now) _ in-limits j (omega (arith, c .before .before .total-of .ensures))))
+
 path-holds : tie.Need-path-holds Inv-loop2 μ-loop2 Inv-loop μ-loop Inv-path μ-path
 path-holds c = (search needs, search needs, refl, refl, below-none _)
 
 loop-holds : tie.Need-loop-holds Inv-loop2 μ-loop2 Inv-loop μ-loop Inv-path μ-path
 loop-holds c =
     let p = c .before .before .before in
-    (omega arith, omega arith, p .path .inv .3, omega (arith, total-in (p .before .before .before .before .args .shapes .now) (p .path .s) (omega arith)), p .path .inv .4)
+    (omega arith, omega arith, p .path .inv .3, omega (arith, total-in (p .before .before .before .before .before .before .before .args .shapes .now) (p .path .s) (omega arith)), p .path .inv .4)
 
 loop2-holds : tie.Need-loop2-holds Inv-loop2 μ-loop2 Inv-loop μ-loop Inv-path μ-path
 loop2-holds c = (omega arith, c .before .loop .inv .2, omega arith, below-none _)
@@ -55,40 +62,40 @@ loop2-holds c = (omega arith, c .before .loop .inv .2, omega arith, below-none _
 loop2-again : tie.Need-loop2-again Inv-loop2 μ-loop2 Inv-loop μ-loop Inv-path μ-path
 loop2-again c =
     let w = c .before .before .before .before .loop2 in
-    (omega arith, w .inv .1, w .inv .2, below-more _ _ (w .inv .3) (sym (c .before .in-limit .ensures) ∙ not-false _ (c .if1 .left)))
+    (omega arith, w .inv .1, w .inv .2, below-more _ _ (w .inv .3) (sym (c .before .in-limit .ensures) ∙ not-false _ (c .if2 .left)))
 
 loop-again : tie.Need-loop-again Inv-loop2 μ-loop2 Inv-loop μ-loop Inv-path μ-path
 loop-again c =
     let w = c .before .before .before .before in
     let l = w .before .before .loop in
     let in-limits = anchor-in _ (l .k) (λ q h. w .loop2 .inv .3 q (omega arith)) in
-    let good = place-in _ (l .k) _ in-limits (sym (c .before .in-limit2 .ensures) ∙ not-false _ (c .if2 .left)) in
+    let good = place-in _ (l .k) _ in-limits (sym (c .before .in-limit2 .ensures) ∙ not-false _ (c .if3 .left)) in
     (omega arith, omega arith, w .loop2 .inv .1, l .inv .3, below-more _ _ (l .inv .4) good)
 
 path-again : tie.Need-path-again Inv-loop2 μ-loop2 Inv-loop μ-loop Inv-path μ-path
 path-again c =
     let l = c .before .loop in
     let p = c .before .before .before .before .before in
-    (omega arith, refl, omega (arith, total-next (p .before .before .before .before .args .shapes .now) (p .path .s) (omega arith)), l .inv .2, l .inv .4)
-
-returns : tie.Need-returns Inv-loop2 μ-loop2 Inv-loop μ-loop Inv-path μ-path
-returns c =
-    let p = c .before in
-    let end = total-end (p .before .before .before .before .args .shapes .now) (p .path .s) (omega arith) in
-    p .path .inv .3 ∙ sym (none-is _ _ .1 (λ j h. p .path .inv .4 j (omega (arith, end))))
+    (omega arith, refl, omega (arith, total-next (p .before .before .before .before .before .before .before .args .shapes .now) (p .path .s) (omega arith)), l .inv .2, l .inv .4)
 
 returns-2 : tie.Need-returns-2 Inv-loop2 μ-loop2 Inv-loop μ-loop Inv-path μ-path
 returns-2 c =
-    let w = c .before .before .before .before in
-    let l = w .before .before .loop in
-    let out = anchor-out _ (l .k) (w .loop2 .i) (omega arith) (sym (c .before .in-limit .ensures) ∙ not-true _ (c .if1 .taken)) in
-    sym (first-is _ _ _ .1 (record { place = w .loop2 .inv .2; bad = place-out _ (l .k) _ out; below = l .inv .4 }))
+    let p = c .before in
+    let end = total-end (p .before .before .before .before .before .before .before .args .shapes .now) (p .path .s) (omega arith) in
+    p .path .inv .3 ∙ sym (none-is _ _ .1 (λ j h. p .path .inv .4 j (omega (arith, end))))
 
 returns-3 : tie.Need-returns-3 Inv-loop2 μ-loop2 Inv-loop μ-loop Inv-path μ-path
 returns-3 c =
     let w = c .before .before .before .before in
     let l = w .before .before .loop in
-    let out = radius-out _ (l .k) _ (sym (c .before .in-limit2 .ensures) ∙ not-true _ (c .if2 .taken)) in
+    let out = anchor-out _ (l .k) (w .loop2 .i) (omega arith) (sym (c .before .in-limit .ensures) ∙ not-true _ (c .if2 .taken)) in
+    sym (first-is _ _ _ .1 (record { place = w .loop2 .inv .2; bad = place-out _ (l .k) _ out; below = l .inv .4 }))
+
+returns-4 : tie.Need-returns-4 Inv-loop2 μ-loop2 Inv-loop μ-loop Inv-path μ-path
+returns-4 c =
+    let w = c .before .before .before .before in
+    let l = w .before .before .loop in
+    let out = radius-out _ (l .k) _ (sym (c .before .in-limit2 .ensures) ∙ not-true _ (c .if3 .taken)) in
     sym (first-is _ _ _ .1 (record { place = w .loop2 .inv .2; bad = out; below = l .inv .4 }))
 
 pub first-bad-place-spec : {M : Type 1} → statement M
@@ -101,6 +108,9 @@ first-bad-place-spec =
     μ-loop
     Inv-path
     μ-path
+    (λ c κs. search needs)
+    (λ c κs. search needs)
+    returns
     path-holds
     (λ c. search needs)
     (λ c. search needs)
@@ -125,6 +135,6 @@ first-bad-place-spec =
     (λ c. search needs)
     (λ c. search needs)
     path-again
-    returns
     returns-2
-    returns-3)
+    returns-3
+    returns-4)

@@ -23,26 +23,28 @@ abbrev μ-loop : tie.MeasureT-loop
 μ-loop m anchors n made₀ k₀ made k = n - k
 
 -- what is put is the anchor at place k, mapped
-value : (c : tie.After-mapped Inv-loop μ-loop) → let a = c .before .before .before .before .before .before .args in c .mapped .result ≡ mappedAt (a .m) (a .anchors .now) (c .before .before .before .before .loop .k)
+value : (c : tie.After-mapped Inv-loop μ-loop) → let a = c .before .before .before .before .before .before .before .args in c .mapped .result ≡ mappedAt (a .m) (a .anchors .now) (c .before .before .before .before .loop .k)
 unfolding mappedAt
-value c = c .mapped .ensures ∙ ap (mapped (c .before .before .before .before .before .before .args .m)) (c .before .before .anchor-at .ensures)
+value c = c .mapped .ensures ∙ ap (mapped (c .before .before .before .before .before .before .before .args .m)) (c .before .before .anchor-at .ensures)
 
 loop-again : tie.Need-loop-again Inv-loop μ-loop
 loop-again c =
-    let a = c .before .before .before .before .before .before .before .args in
-    let l = c .before .before .before .before .before .loop in
-    let v = c .before .mapped .result in
-    let e = c .put-anchor .ensures in
+    let p = c .before .before in
+    let l = p .before .before .before .before .before .loop in
+    let s = p .before .before .before .before .before .before .before .before in
+    let a = s .args in
+    let v = p .before .mapped .result in
+    let e = p .put-anchor .ensures in
     let same = ap length e ∙ length-put (l .made) (l .k) v in (
       omega arith,
       same ∙ l .inv .1,
-      λ j h. ap (λ z. entry z j) e ∙ put-more (l .made) (l .k) v _ (omega arith) (l .inv .2) (value (c .before)) j h,
+      λ j h. ap (λ z. entry z j) e ∙ put-more (l .made) (l .k) v _ (omega (arith, l .inv .1, s .pre .2)) (l .inv .2) (value (p .before)) j h,
       λ j h. ap (λ z. entry z j) e ∙ put-keep (l .made) (l .k) v (a .made .now) (l .inv .3) j h,
     )
 
 returns : tie.Need-returns Inv-loop μ-loop
 returns c =
-    let a = c .before .before .before .args in
+    let a = c .before .before .before .before .args in
     let l = c .before .loop in
     as-overwrite nan (l .made) (a .made .now) (a .n * 6) _ (l .inv .1) (λ j h. l .inv .2 j (omega arith)) (λ j h. l .inv .3 j (omega arith))
 
@@ -59,4 +61,5 @@ map-anchors-spec =
     (λ c. search needs)
     (λ c. search needs)
     loop-again
+    (λ c. search needs)
     returns)

@@ -41,12 +41,17 @@ abbrev μ-loop : tie.MeasureT-loop
 loop-holds : tie.Need-loop-holds Inv-loop μ-loop
 loop-holds c = (omega arith, omega arith, λ j h l. absurd (omega arith))
 
+-- what is made of the point that was found
+made : (c : tie.After-mul Inv-loop μ-loop) → c .mul .result ≡ unit (c .before .before .before .before .sub .result)
+unfolding unit
+made c = rw (c .mul .ensures, c .before .len .ensures)
+
 returns : tie.Need-returns Inv-loop μ-loop
 returns c =
-    let b = c .before .before in
+    let b = c .before .before .before in
     let d = b .before .sub .ensures in
     let l = b .before .before .before .before .before .loop in
-    ap Along (c .unit .ensures ∙ ap unit d) ∙ found _ (l .k) (l .inv .0) (omega arith) (l .inv .2) (rw (b .beyond .ensures, d) at (c .before .if1 .taken))
+    ap Along (made c ∙ ap unit d) ∙ found _ (l .k) (l .inv .0) (omega arith) (l .inv .2) (rw (b .beyond .ensures, d) at (c .before .before .if1 .taken))
 
 loop-again : tie.Need-loop-again Inv-loop μ-loop
 loop-again c =
@@ -69,6 +74,7 @@ direction-spec =
     (λ c. search needs)
     (λ c. search needs)
     (λ c. search needs)
+    (λ c κs. tt)
     (λ c κs. tt)
     (λ c κs. tt)
     (λ c κs. tt)

@@ -8,7 +8,7 @@ returns : tie.Need-returns
 unfolding lengthOf
 returns c =
     let t = c .before .before .before in
-    rw (← t .before .is-straight-side .ensures, t .if1 .taken) (c .dist .ensures)
+    rw (← t .before .is-straight-side .ensures, t .if1 .taken) (c .dist-near .ensures)
 
 returns-2 : tie.Need-returns-2
 unfolding lengthOf

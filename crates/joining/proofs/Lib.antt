@@ -1,0 +1,4 @@
+pub mod Eithers
+pub mod Laid
+pub mod Within
+pub mod Outcomes
