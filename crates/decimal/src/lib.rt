@@ -5,5 +5,6 @@ mod rounding;
 mod writing;
 
 pub use bytes::put;
+pub use bytes::put_bytes;
 pub use writing::put_whole;
 pub use writing::write_num;

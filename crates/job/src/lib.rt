@@ -6,3 +6,4 @@ mod words;
 
 pub use call::Job;
 pub use call::read;
+pub use words::word_at;

@@ -5,8 +5,8 @@ ghost use lib.Dec.{eqb};
 ghost use Rattle.geom.specs.Point.{point};
 ghost use Rattle.bend.specs.Edits.{smoothAnswer, smoothLeft, bendAnswer, bendLeft};
 ghost use Rattle.transform.specs.Call.{transformAnswer, transformShapes, transformAnchors};
-ghost use Rattle.outline.specs.Answers.{outlineCode, outlineWords};
-use crate::paths::outline_told;
+ghost use Rattle.answers.specs.Answers.{outlineCode, outlineWords};
+use answers::outline_told;
 use geom::P;
 
 #[no_mangle]

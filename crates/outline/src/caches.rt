@@ -1,8 +1,8 @@
 // The exported calls on caches.
 ghost use mathlib.Core.Path.{_≡_};
 ghost use Rattle.cache.specs.Calls.{buildAnswer, buildNumbers, buildFlags, assembleAnswer, assembleShapes, assembleAnchors};
-ghost use Rattle.outline.specs.Answers.{outlineCode, outlineWords};
-use crate::paths::outline_told;
+ghost use Rattle.answers.specs.Answers.{outlineCode, outlineWords};
+use answers::outline_told;
 
 #[no_mangle]
 pub extern "C" fn outline_build(

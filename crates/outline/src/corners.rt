@@ -1,9 +1,8 @@
 // The exported call that lists a path's corners.
 ghost use mathlib.Core.Path.{_≡_};
 ghost use Rattle.corner_calls.specs.Calls.{pathCornersAnswer, pathCornersPlaces, pathCornersNumbers};
-ghost use Rattle.outline.specs.Answers.{cornersCode, cornersWords};
-use crate::tell;
-use corner_calls::Corners;
+ghost use Rattle.answers.specs.Answers.{cornersCode, cornersWords};
+use answers::corners_told;
 
 #[no_mangle]
 pub extern "C" fn outline_path_corners(
@@ -20,21 +19,4 @@ pub extern "C" fn outline_path_corners(
 {
     let a = corner_calls::path_corners(shapes, anchors, places, numbers);
     corners_told(a, answer)
-}
-
-// What a call that lists corners answered.
-fn corners_told(a: Corners, answer: &mut [u64; 4]) -> u32
-    ensures code { λ r. ⌜ r ≡ cornersCode a ⌝ }
-    ensures answer { λ _. ⌜ now (answer .exit) ≡ cornersWords a ⌝ }
-{
-    match a {
-        Corners::Refused(n, place) => {
-            tell(place, 0, answer);
-            n
-        }
-        Corners::Accepted(count) => {
-            tell(0, count, answer);
-            0
-        }
-    }
 }

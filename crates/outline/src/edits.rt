@@ -3,8 +3,8 @@ ghost use mathlib.Core.Path.{_≡_};
 ghost use Rattle.edit.specs.Split.{splitAnswer, splitShapesLeft, splitAnchorsLeft};
 ghost use Rattle.edit.specs.Reversed.{reversedAnswer, reversedLeft};
 ghost use Rattle.removal.specs.Deleted.{deleteAnswer, deleteShapesLeft, deleteAnchorsLeft};
-ghost use Rattle.outline.specs.Answers.{outlineCode, outlineWords};
-use crate::paths::outline_told;
+ghost use Rattle.answers.specs.Answers.{outlineCode, outlineWords};
+use answers::outline_told;
 
 #[no_mangle]
 pub extern "C" fn outline_split(

@@ -2,8 +2,8 @@
 ghost use mathlib.Core.Path.{_≡_};
 ghost use Rattle.geom.specs.Point.{point};
 ghost use Rattle.hit.specs.Calls.{hitAnchorAnswer, hitSegmentAnswer, boundsAnswer};
-ghost use Rattle.outline.specs.Answers.{hitAnchorCode, hitAnchorWords, hitSegmentCode, hitSegmentWords, parameterLeft, extentCode, extentWords, cornersLeft};
-use crate::tell;
+ghost use Rattle.answers.specs.Answers.{hitAnchorCode, hitAnchorWords, hitSegmentCode, hitSegmentWords, parameterLeft, extentCode, extentWords, cornersLeft};
+use answers::tell;
 use geom::P;
 use hit::Extent;
 use hit::HitAnchor;

@@ -3,9 +3,8 @@ ghost use mathlib.Core.Path.{_≡_};
 ghost use Rattle.decimal.specs.Put.{Put};
 ghost use Rattle.job.specs.Call.{readAnswer, readShapes, readAnchors, readRadii};
 ghost use Rattle.printing.specs.Printed.{printed};
-ghost use Rattle.outline.specs.Answers.{jobCode, jobWords};
-use crate::tell;
-use job::Job;
+ghost use Rattle.answers.specs.Answers.{jobCode, jobWords};
+use answers::job_told;
 
 #[no_mangle]
 pub extern "C" fn outline_read(
@@ -23,23 +22,6 @@ pub extern "C" fn outline_read(
 {
     let a = job::read(bytes, shapes, anchors, radii);
     job_told(a, answer)
-}
-
-// What the reader answered.
-fn job_told(a: Job, answer: &mut [u64; 4]) -> u32
-    ensures code { λ r. ⌜ r ≡ jobCode a ⌝ }
-    ensures answer { λ _. ⌜ now (answer .exit) ≡ jobWords a ⌝ }
-{
-    match a {
-        Job::Refused(n, place) => {
-            tell(place, 0, answer);
-            n
-        }
-        Job::Read(kind, subpaths, count) => {
-            *answer = [0, count as u64, subpaths as u64, kind as u64];
-            0
-        }
-    }
 }
 
 #[no_mangle]

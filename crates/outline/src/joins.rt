@@ -3,8 +3,8 @@ ghost use mathlib.Core.Path.{_≡_};
 ghost use mathlib.Core.Bool.{not};
 ghost use lib.Dec.{eqb};
 ghost use Rattle.joining.specs.Call.{joinAnswer, joinShapesLeft, joinAnchorsLeft};
-ghost use Rattle.outline.specs.Answers.{outlineCode, outlineWords};
-use crate::paths::outline_told;
+ghost use Rattle.answers.specs.Answers.{outlineCode, outlineWords};
+use answers::outline_told;
 
 #[no_mangle]
 pub extern "C" fn outline_join(

@@ -5,8 +5,9 @@ ghost use mathlib.Core.Path.{_≡_};
 ghost use Rattle.root.specs.Root.{rootOf};
 ghost use Rattle.geom.specs.Point.{point};
 ghost use Rattle.cubic_calls.specs.Calls.{lenAnswer, cubicAtAnswer, sampleAnswer, sampleLeft, splitAnswer, splitBefore, splitAfter, partAnswer, partLeft};
-ghost use Rattle.outline.specs.Answers.{curveOf, words, numberCode, numberWords, numberLeft, pointCode, pointWords, pointLeft, filledCode, filledWords};
-use cubic_calls::Filled;
+ghost use Rattle.answers.specs.Answers.{curveOf, words, numberCode, numberWords, numberLeft, pointCode, pointWords, pointLeft, filledCode, filledWords};
+use answers::filled_told;
+use answers::tell;
 use cubic_calls::Number;
 use cubic_calls::Point;
 use geom::P;
@@ -32,13 +33,6 @@ fn curve(c: &[f64; 8]) -> [P; 4]
         P::new(c[4], c[5]),
         P::new(c[6], c[7]),
     ]
-}
-
-// Puts the answer's four words.
-fn tell(place: usize, count: usize, answer: &mut [u64; 4])
-    ensures { λ _. ⌜ now (answer .exit) ≡ words place count ⌝ }
-{
-    *answer = [place as u64, count as u64, 0, 0];
 }
 
 // The square root of x, as IEEE 754 has it.
@@ -94,23 +88,6 @@ pub extern "C" fn outline_cubic_at(
     }
 }
 
-// What a call that fills lists answered.
-fn filled(a: Filled, answer: &mut [u64; 4]) -> u32
-    ensures code { λ r. ⌜ r ≡ filledCode a ⌝ }
-    ensures answer { λ _. ⌜ now (answer .exit) ≡ filledWords a ⌝ }
-{
-    match a {
-        Filled::Refused(n, place) => {
-            tell(place, 0, answer);
-            n
-        }
-        Filled::Accepted(count) => {
-            tell(0, count, answer);
-            0
-        }
-    }
-}
-
 #[no_mangle]
 pub extern "C" fn outline_sample(
     c: &[f64; 8],
@@ -123,7 +100,7 @@ pub extern "C" fn outline_sample(
     ensures out { λ _. ⌜ now (out .exit) ≡ sampleLeft (curveOf (now (c .entry))) n (now (out .entry)) ⌝ }
 {
     let a = cubic_calls::sample(curve(c), n, out);
-    filled(a, answer)
+    filled_told(a, answer)
 }
 
 #[no_mangle]
@@ -140,7 +117,7 @@ pub extern "C" fn outline_split_cubic(
     ensures after { λ _. ⌜ now (after .exit) ≡ splitAfter (curveOf (now (c .entry))) t (now (before .entry)) (now (after .entry)) ⌝ }
 {
     let a = cubic_calls::split_cubic(curve(c), t, before, after);
-    filled(a, answer)
+    filled_told(a, answer)
 }
 
 #[no_mangle]
@@ -156,5 +133,5 @@ pub extern "C" fn outline_subsegment(
     ensures out { λ _. ⌜ now (out .exit) ≡ partLeft (curveOf (now (c .entry))) from to (now (out .entry)) ⌝ }
 {
     let a = cubic_calls::subsegment(curve(c), from, to, out);
-    filled(a, answer)
+    filled_told(a, answer)
 }

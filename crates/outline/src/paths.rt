@@ -2,10 +2,9 @@
 ghost use mathlib.Core.Path.{_≡_};
 ghost use Rattle.cut_calls.specs.Calls.{cutAnswer, cutShapesLeft, cutAnchorsLeft};
 ghost use Rattle.svg.specs.Call.{toSvgDAnswer, toSvgDLeft, writeNumAnswer, writeNumLeft};
-ghost use Rattle.outline.specs.Answers.{textCode, textWords, outlineCode, outlineWords};
-use crate::tell;
-use call::Outline;
-use svg::Answer;
+ghost use Rattle.answers.specs.Answers.{textCode, textWords, outlineCode, outlineWords};
+use answers::outline_told;
+use answers::text_told;
 
 #[no_mangle]
 pub extern "C" fn outline_cut_corners(
@@ -24,23 +23,6 @@ pub extern "C" fn outline_cut_corners(
 {
     let a = cut_calls::cut_corners(shapes, anchors, radii, kind, to_shapes, to);
     outline_told(a, answer)
-}
-
-// What a call that makes an outline answered.
-pub fn outline_told(a: Outline, answer: &mut [u64; 4]) -> u32
-    ensures code { λ r. ⌜ r ≡ outlineCode a ⌝ }
-    ensures answer { λ _. ⌜ now (answer .exit) ≡ outlineWords a ⌝ }
-{
-    match a {
-        Outline::Refused(n, place) => {
-            tell(place, 0, answer);
-            n
-        }
-        Outline::Accepted(subpaths, count) => {
-            *answer = [0, count as u64, subpaths as u64, 0];
-            0
-        }
-    }
 }
 
 #[no_mangle]
@@ -66,21 +48,4 @@ pub extern "C" fn outline_write_num(x: f64, out: &mut [u8], answer: &mut [u64; 4
 {
     let a = svg::write_num(x, out);
     text_told(a, answer)
-}
-
-// What a call that writes text answered.
-fn text_told(a: Answer, answer: &mut [u64; 4]) -> u32
-    ensures code { λ r. ⌜ r ≡ textCode a ⌝ }
-    ensures answer { λ _. ⌜ now (answer .exit) ≡ textWords a ⌝ }
-{
-    match a {
-        Answer::Refused(n, place) => {
-            tell(place, 0, answer);
-            n
-        }
-        Answer::Accepted(length) => {
-            tell(0, length, answer);
-            0
-        }
-    }
 }

@@ -9,27 +9,9 @@ ghost use Rattle.replay.specs.declared.calls.Replayed.the-variants.{Done};
 ghost use Rattle.replay.specs.Encoding.{callsOf};
 ghost use Rattle.replay.specs.Replay.{replayAnswer, replayLists, replayAnswers};
 ghost use Rattle.replay.specs.Claim.{Claim};
-ghost use Rattle.outline.specs.Answers.{editedCode, editedWords, replayedCode, replayedWords};
-use crate::tell;
-use replay::Replayed;
-use session::Edited;
-
-// What an edit answered.
-fn edited_told(a: Edited, answer: &mut [u64; 4]) -> u32
-    ensures code { λ r. ⌜ r ≡ editedCode a ⌝ }
-    ensures answer { λ _. ⌜ now (answer .exit) ≡ editedWords a ⌝ }
-{
-    match a {
-        Edited::Refused(n, place) => {
-            tell(place, 0, answer);
-            n
-        }
-        Edited::Accepted(recut, count) => {
-            *answer = [0, count as u64, 0, recut as u64];
-            0
-        }
-    }
-}
+ghost use Rattle.answers.specs.Answers.{editedCode, editedWords, replayedCode, replayedWords};
+use answers::edited_told;
+use answers::replayed_told;
 
 // Six new numbers for anchor i of subpath s.
 #[no_mangle]
@@ -113,23 +95,6 @@ pub extern "C" fn outline_split_segment(
 {
     let told = cached::split_segment(shapes, anchors, radii, kind, numbers, flags, s, a, t);
     edited_told(told, answer)
-}
-
-// What a list of edits answered.
-fn replayed_told(a: Replayed, answer: &mut [u64; 4]) -> u32
-    ensures code { λ r. ⌜ r ≡ replayedCode a ⌝ }
-    ensures answer { λ _. ⌜ now (answer .exit) ≡ replayedWords a ⌝ }
-{
-    match a {
-        Replayed::Refused(n, place) => {
-            tell(place, 0, answer);
-            n
-        }
-        Replayed::Done(count) => {
-            tell(0, count, answer);
-            0
-        }
-    }
 }
 
 // The cache built, then a list of encoded calls run one after the other.

@@ -5,8 +5,8 @@ ghost use Rattle.real.specs.Limit.{inLimit};
 ghost use Rattle.geom.specs.Point.{point};
 ghost use Rattle.shape.specs.Outlines.{rectAnchors, ellipseAnchors, lineAnchors};
 ghost use Rattle.shape.specs.Calls.{pairIn, shapeAnswer, shapeWord, shapeNumbers};
-ghost use Rattle.outline.specs.Answers.{outlineCode, outlineWords};
-use crate::paths::outline_told;
+ghost use Rattle.answers.specs.Answers.{outlineCode, outlineWords};
+use answers::outline_told;
 use geom::P;
 
 #[no_mangle]

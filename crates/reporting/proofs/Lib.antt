@@ -1,7 +1,4 @@
-pub mod Numbers
 pub mod Inputs
-pub mod Places
-pub mod Rooms
 pub mod Theorems
 pub mod Turns
 pub mod Sessions
@@ -9,4 +6,3 @@ pub mod Gathering
 pub mod Drawings
 pub mod JobLists
 pub mod Replays
-mod Samples

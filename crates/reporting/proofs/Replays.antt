@@ -38,7 +38,7 @@ use Rattle.replay.specs.Replay.{stage, callWords, answerWord, replayVerdict, un
 use Rattle.replay.proofs.Stages.{stage-played, word-at}
 use Rattle.replay.proofs.Outcomes.{fit-says, calls-unknown, calls-known}
 use Rattle.reporting.specs.Codes.{whichOf, indexOf}
-use Rattle.reporting.specs.Lines.{windowOf, subFrom, callLine, lineAt, callLines, Sound, SoundAll}
+use Rattle.call_lines.specs.Lines.{windowOf, subFrom, callLine, lineAt, callLines, Sound, SoundAll}
 use Rattle.printing.specs.Printed.{fitted}
 use Rattle.reporting.specs.Gathered.{heldText, Gathers}
 use Rattle.reporting.specs.Report.{reportOf, refusing, roomy, drawingReport}

@@ -20,7 +20,7 @@ use Rattle.session.proofs.Plays.{after-played}
 use Rattle.cached.specs.Near.{reachedIn}
 use Rattle.replay.specs.Encoding.{subpathOf}
 use Rattle.reporting.specs.Codes.{windowIn}
-use Rattle.reporting.specs.Lines.{subFrom, recutText}
+use Rattle.call_lines.specs.Lines.{subFrom, recutText}
 use Rattle.reporting.specs.Report.{editedText, editedLine, modelLines, fedAll}
 use Rattle.reporting.proofs.Theorems.{recuts-reached}
 use Rattle.reporting.proofs.Turns.{passing-cong, turnLine}

@@ -23,8 +23,8 @@ use Rattle.session.proofs.Effects.{faithful}
 use Rattle.cached.specs.Near.{reachedIn}
 use Rattle.replay.specs.Encoding.{subpathOf}
 use Rattle.reporting.specs.Codes.{whichOf, indexOf, subLeft, windowIn}
-use Rattle.reporting.specs.Lines.{passing, windowOf, subFrom, recutPlaces}
-use Rattle.reporting.proofs.Places.{passing-same, passing-more}
+use Rattle.call_lines.specs.Lines.{passing, windowOf, subFrom, recutPlaces}
+use Rattle.call_lines.proofs.Places.{passing-same, passing-more}
 
 -- ---- in the list are exactly the places that pass
 member-append : (k : ℕ) (a b : List ℕ) → member k (a ++ b) ≡ (member k a || member k b)

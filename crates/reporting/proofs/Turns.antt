@@ -26,9 +26,9 @@ use Rattle.session.proofs.Splits.{segment-in, split-count, split-start, split-t
 use Rattle.cached.specs.Near.{reachedIn}
 use Rattle.replay.specs.Encoding.{subpathOf}
 use Rattle.reporting.specs.Codes.{whichOf, indexOf, subLeft, windowIn}
-use Rattle.reporting.specs.Lines.{passing, windowOf, subFrom, recutPlaces, callText, callLine, Sound}
+use Rattle.call_lines.specs.Lines.{passing, windowOf, subFrom, recutPlaces, callText, callLine, Sound}
 use Rattle.reporting.specs.Report.{editedText, editedLine}
-use Rattle.reporting.proofs.Places.{passing-same}
+use Rattle.call_lines.proofs.Places.{passing-same}
 use Rattle.reporting.proofs.Theorems.{reached-past, recuts-reached}
 
 -- ---- no refusal has number 0

@@ -6,7 +6,7 @@ use Rattle.cut.specs.declared.subpath.Window.{Window}
 use Rattle.session.specs.Drawing.{Drawing}
 use Rattle.session.specs.Edits.{Call, move, setRadius, split, editOf}
 use Rattle.replay.specs.Encoding.{subpathOf}
-use Rattle.reporting.specs.Lines.{windowOf, subFrom}
+use Rattle.call_lines.specs.Lines.{windowOf, subFrom}
 
 unfoldable pub whichOf : Call → ℕ
 whichOf (move s i new) = 0

@@ -6,7 +6,7 @@ use mathlib.Core.List.{List, [], _∷_, _++_}
 use lib.Dec.{leb}
 use lib.ListN.{length, drop}
 use lib.Ieee.{Float}
-use Rattle.views.specs.View.{entry, tabulate}
+use Rattle.views.specs.View.{entry}
 use Rattle.refusal.specs.Order.{Test, passes, fails}
 use Rattle.path.specs.Shape.{total}
 use Rattle.path.specs.Flat.{anchorAt}
@@ -25,10 +25,10 @@ use Rattle.session.specs.Model.{Lengths, Fed, modelAnswer, modelNext, modelAfte
 use Rattle.session.specs.Outline.{plainText}
 use Rattle.printing.specs.Refused.{refusedText}
 use Rattle.printing.specs.Printed.{fitted}
-use Rattle.reporting.specs.declared.calls.Calls as declared
-use Rattle.reporting.specs.declared.calls.Calls.the-variants as calls
-use Rattle.reporting.specs.Input.{countIn, codeAt, valueAt, callsAnswer}
-use Rattle.reporting.specs.Lines.{passing, recutText}
+use Rattle.call_list.specs.declared.calls.Calls as declared
+use Rattle.call_list.specs.declared.calls.Calls.the-variants as calls
+use Rattle.call_list.specs.Input.{callsAnswer, codesIn, valuesIn}
+use Rattle.call_lines.specs.Lines.{passing, recutText}
 
 -- the calls' lines, and the last line less its newline
 pub record Report : Type 0 where
@@ -88,12 +88,6 @@ unfoldable pub jobReport : Bool → List Call → List ℕ → Report
 jobReport known calls bytes = cond (leb (length bytes) 32768) (readReport known calls (fileRead bytes)) (refusing 1 8192)
 
 -- ---- on an input: the calls, then the job
-unfoldable pub codesIn : List ℕ → List ℕ
-codesIn bytes = tabulate (countIn bytes * 3) (codeAt bytes)
-
-unfoldable pub valuesIn : List ℕ → List Float
-valuesIn bytes = tabulate (countIn bytes * 6) (valueAt bytes)
-
 unfoldable pub callsReport : declared.Calls → List ℕ → Report
 callsReport (calls.Refused n place) bytes = refusing n place
 callsReport (calls.Read m) bytes = jobReport (callsKnown (codesIn bytes)) (callsOf (codesIn bytes) (valuesIn bytes)) (drop (4 + m * 36) bytes)

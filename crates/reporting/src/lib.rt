@@ -1,10 +1,6 @@
-// What the program `edits` reads and prints: a list of calls and a job, a line for each call, and the last text.
-mod calls;
-mod lines;
+// What the program `edits` prints for a list of calls and a job: a line for each call, and the last text.
 mod outlines;
 mod reports;
-mod texts;
-mod words;
 
 pub use reports::Reported;
 pub use reports::report;

@@ -26,6 +26,7 @@ impl Inputs {
             name: "transform, 512 anchors",
             calls: PATHS,
             inputs: paths.len(),
+            restore: None,
             ours: Box::new(move |at| {
                 let (mut words, mut to, mut answer) = ([0; 1], [0.0; 6 * MOST_ANCHORS], [0; 4]);
                 for (Path { shapes, numbers }, _, m) in &paths[at] {

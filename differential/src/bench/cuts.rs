@@ -60,6 +60,7 @@ impl Input {
             name: self.name,
             calls: calls(self.anchors),
             inputs: self.drawings.len(),
+            restore: None,
             ours: Box::new(move |at| {
                 for (drawing, _) in &self.drawings[at] {
                     let refusal = ffi::cut_corners(

@@ -1,18 +1,22 @@
-//! One edit of a drawing and its cut cache, against the original's cut of the whole drawing.
+//! One edit of a drawing and its cut cache, against the original's cut of the whole drawing as the edit leaves it.
 
 use super::cuts::{original_cut_corners, zigzag};
 use super::Race;
 use crate::caches::{Cache, TWELVE};
 use crate::drawings::Drawing;
 use crate::ffi;
-use crate::original::bezier::BezPath;
+use crate::original::bezier::{split, BezPath};
 use crate::paths::SIX;
 use crate::random::Random;
 use crate::refusal::ACCEPTED;
+use std::cell::RefCell;
 use std::hint::black_box;
+use std::rc::Rc;
 
 /// Drawings of one size; a round edits one of them.
 const DRAWINGS: usize = 4;
+/// The middle of a segment.
+const HALF: f64 = 0.5;
 
 #[derive(Clone, Copy)]
 enum Edit {
@@ -24,7 +28,30 @@ enum Edit {
 struct Input {
     name: &'static str,
     edit: Edit,
-    drawings: Vec<(Drawing, BezPath)>,
+    drawings: Vec<Edited>,
+}
+
+/// A drawing, and what the original cuts. Of a moved anchor or a new radius it is the drawing as it was: only the numbers differ.
+struct Edited {
+    drawing: Drawing,
+    path: BezPath,
+    radii: Vec<f64>,
+}
+
+impl Edited {
+    fn of((drawing, mut path): (Drawing, BezPath), edit: Edit) -> Edited {
+        let mut radii = drawing.radii.clone();
+        if let Edit::Split = edit {
+            let a = radii.len() / 2;
+            split(&mut path, 0, a, HALF);
+            radii.insert(a + 1, 0.0);
+        }
+        Edited {
+            drawing,
+            path,
+            radii,
+        }
+    }
 }
 
 pub struct Inputs(Vec<Input>);
@@ -35,7 +62,7 @@ impl Inputs {
             name,
             edit,
             drawings: (0..DRAWINGS)
-                .map(|_| zigzag(anchors, curved, random))
+                .map(|_| Edited::of(zigzag(anchors, curved, random), edit))
                 .collect(),
         };
         use Edit::{Move, SetRadius, Split};
@@ -60,22 +87,27 @@ impl Inputs {
 
 impl Input {
     fn race(&self) -> Race<'_> {
-        let mut kept: Vec<Kept> = self.drawings.iter().map(|(d, _)| Kept::of(d)).collect();
+        let fresh = || Vec::from_iter(self.drawings.iter().map(|d| Kept::of(&d.drawing)));
+        let (kept, copies) = (Rc::new(RefCell::new(fresh())), fresh());
+        let lent = Rc::clone(&kept);
         let mut round = 0;
         Race {
             name: self.name,
             calls: 1,
             inputs: DRAWINGS,
+            restore: Some(Box::new(move |at| {
+                lent.borrow_mut()[at.clone()].clone_from_slice(&copies[at]);
+            })),
             ours: Box::new(move |at| {
-                for kept in &mut kept[at] {
+                for kept in &mut kept.borrow_mut()[at] {
                     round += 1;
                     kept.edit(self.edit, round);
                     black_box(&kept);
                 }
             }),
             original: Box::new(|at| {
-                for (drawing, path) in &self.drawings[at] {
-                    black_box(&original_cut_corners(path, &drawing.radii));
+                for Edited { path, radii, .. } in &self.drawings[at] {
+                    black_box(&original_cut_corners(path, radii));
                 }
             }),
         }
@@ -83,6 +115,7 @@ impl Input {
 }
 
 /// A drawing and its cache, with room for one place more.
+#[derive(Clone)]
 struct Kept {
     anchors: usize,
     shapes: [u32; 1],
@@ -110,16 +143,11 @@ impl Kept {
         kept
     }
 
-    /// The anchors move to and fro, and the radii change, so that every round recuts.
+    /// Rounds go from place to place.
     fn edit(&mut self, edit: Edit, round: usize) {
         let i = round * 37 % self.anchors;
-        let step = if round.is_multiple_of(2) {
-            0.125
-        } else {
-            -0.125
-        };
+        let step = 0.125;
         let mut answer = [0; 4];
-        let word = self.shapes[0];
         let refusal = match edit {
             Edit::Move => {
                 let mut new = [0.0; SIX];
@@ -161,12 +189,10 @@ impl Kept {
                 &mut self.flags,
                 0,
                 i,
-                0.5,
+                HALF,
                 &mut answer,
             ),
         };
         assert_eq!(refusal, ACCEPTED);
-        // A split's last anchor is left out again, so that the next one has the same size.
-        self.shapes[0] = word;
     }
 }

@@ -35,6 +35,7 @@ impl Inputs {
                 name: "hit_anchor, 512 anchors",
                 calls: CALLS,
                 inputs: INPUTS,
+                restore: None,
                 ours: Box::new(move |at| {
                     let mut answer = [0; 4];
                     for Input { path, q, .. } in &inputs[at] {
@@ -55,6 +56,7 @@ impl Inputs {
                 name: "hit_segment, 512 anchors",
                 calls: 1,
                 inputs: INPUTS,
+                restore: None,
                 ours: Box::new(move |at| {
                     let (mut t, mut answer) = (0.0, [0; 4]);
                     for Input { path, q, .. } in &inputs[at] {
@@ -82,6 +84,7 @@ impl Inputs {
                 name: "bounds, 512 anchors",
                 calls: CALLS,
                 inputs: INPUTS,
+                restore: None,
                 ours: Box::new(move |at| {
                     let (mut corners, mut answer) = ([0.0; 4], [0; 4]);
                     for Input { path, .. } in &inputs[at] {

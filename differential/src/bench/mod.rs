@@ -22,6 +22,8 @@ struct Race<'a> {
     calls: usize,
     /// How many there are, a multiple of the calls.
     inputs: usize,
+    /// Makes the inputs what they were before the library's calls changed them; not timed.
+    restore: Option<Calls<'a>>,
     ours: Calls<'a>,
     original: Calls<'a>,
 }
@@ -43,6 +45,9 @@ fn measure(mut races: Vec<Race>) {
         for (race, (ours, original)) in races.iter_mut().zip(&mut times) {
             let start = round * race.calls % race.inputs;
             let at = start..start + race.calls;
+            if let Some(restore) = &mut race.restore {
+                restore(at.clone());
+            }
             ours.push(nanoseconds(&mut race.ours, at.clone()));
             original.push(nanoseconds(&mut race.original, at));
         }

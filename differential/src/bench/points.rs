@@ -53,6 +53,7 @@ impl Inputs {
                 name: "root",
                 calls: CALLS,
                 inputs: NUMBERS,
+                restore: None,
                 ours: Box::new(move |at| roots(&numbers[at], ffi::root)),
                 original: Box::new(move |at| roots(&numbers[at], |x| hardware_root(x))),
             },
@@ -60,6 +61,7 @@ impl Inputs {
                 name: "len",
                 calls: CALLS,
                 inputs: NUMBERS,
+                restore: None,
                 ours: Box::new(move |at| {
                     let (mut length, mut answer) = (0.0, [0; 4]);
                     for v in &vectors[at] {
@@ -77,6 +79,7 @@ impl Inputs {
                 name: "cubic_at",
                 calls: CALLS,
                 inputs: CURVES,
+                restore: None,
                 ours: Box::new(move |at| {
                     let (mut point, mut answer) = ([0.0; 2], [0; 4]);
                     for (c, &t) in curves[at.clone()].iter().zip(&parameters[at]) {
@@ -94,6 +97,7 @@ impl Inputs {
                 name: "sample",
                 calls: SAMPLES,
                 inputs: CURVES,
+                restore: None,
                 ours: Box::new(move |at| {
                     let (mut out, mut answer) = ([0.0; 2 * (STEPS + 1)], [0; 4]);
                     for c in &curves[at] {
@@ -111,6 +115,7 @@ impl Inputs {
                 name: "split_cubic",
                 calls: CALLS,
                 inputs: CURVES,
+                restore: None,
                 ours: Box::new(move |at| {
                     let (mut before, mut after, mut answer) = ([0.0; 8], [0.0; 8], [0; 4]);
                     for (c, &t) in curves[at.clone()].iter().zip(&parameters[at]) {

@@ -46,6 +46,7 @@ impl Inputs {
                 name: "write_num",
                 calls: CALLS,
                 inputs: NUMBERS,
+                restore: None,
                 ours: Box::new(move |at| {
                     let (mut out, mut answer) = ([0; LONGEST], [0; 4]);
                     for &x in &numbers[at] {
@@ -76,6 +77,7 @@ fn race<'a>(name: &'static str, paths: &'a [Written], room: fn(&Written) -> usiz
         name,
         calls: PATHS,
         inputs: paths.len(),
+        restore: None,
         ours: Box::new(move |at| {
             let (mut out, mut answer) = ([0; TEXT], [0; 4]);
             for written in &paths[at] {

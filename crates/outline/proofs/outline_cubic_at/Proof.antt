@@ -1,7 +1,7 @@
 -- `outline::outline_cubic_at` meets its contract. Assumes nothing.
 use mathlib.Core.Path.{refl, ap, _∙_}
 use borrow.Author.Needs.{needs}
-use Rattle.outline.specs.Answers.{pointCode, pointWords, pointLeft}
+use Rattle.answers.specs.Answers.{pointCode, pointWords, pointLeft}
 use Rattle.outline.proofs.outline_cubic_at.Statement.{statement}
 use Rattle.outline.proofs.outline_cubic_at.Tie as tie
 

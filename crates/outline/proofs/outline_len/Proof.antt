@@ -1,7 +1,7 @@
 -- `outline::outline_len` meets its contract. Assumes nothing.
 use mathlib.Core.Path.{refl, ap, _∙_}
 use borrow.Author.Needs.{needs}
-use Rattle.outline.specs.Answers.{numberCode, numberWords, numberLeft}
+use Rattle.answers.specs.Answers.{numberCode, numberWords, numberLeft}
 use Rattle.outline.proofs.outline_len.Statement.{statement}
 use Rattle.outline.proofs.outline_len.Tie as tie
 

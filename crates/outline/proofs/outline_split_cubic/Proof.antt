@@ -1,7 +1,7 @@
 -- `outline::outline_split_cubic` meets its contract. Assumes nothing.
 use mathlib.Core.Path.{refl, ap, _∙_}
 use borrow.Author.Needs.{needs}
-use Rattle.outline.specs.Answers.{filledCode, filledWords}
+use Rattle.answers.specs.Answers.{filledCode, filledWords}
 use Rattle.outline.proofs.outline_split_cubic.Statement.{statement}
 use Rattle.outline.proofs.outline_split_cubic.Tie as tie
 
@@ -10,7 +10,7 @@ returns c =
     let s = c .before .before .before .before .before .before in
     let e = s .split-cubic .ensures in
     rw (← s .before .before .before .curve .ensures)
-    (c .filled .ensures .0 ∙ ap filledCode (e .0), (c .filled .ensures .1 ∙ ap filledWords (e .0), e .1))
+    (c .filled-told .ensures .0 ∙ ap filledCode (e .0), (c .filled-told .ensures .1 ∙ ap filledWords (e .0), e .1))
 
 pub outline-split-cubic-spec : {M : Type 1} → statement M
 outline-split-cubic-spec =

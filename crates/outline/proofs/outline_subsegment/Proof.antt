@@ -1,7 +1,7 @@
 -- `outline::outline_subsegment` meets its contract. Assumes nothing.
 use mathlib.Core.Path.{refl, ap, _∙_}
 use borrow.Author.Needs.{needs}
-use Rattle.outline.specs.Answers.{filledCode, filledWords}
+use Rattle.answers.specs.Answers.{filledCode, filledWords}
 use Rattle.outline.proofs.outline_subsegment.Statement.{statement}
 use Rattle.outline.proofs.outline_subsegment.Tie as tie
 
@@ -9,7 +9,7 @@ returns : tie.Need-returns
 returns c =
     let s = c .before .before .before .before in
     rw (← s .before .before .curve .ensures)
-    (c .filled .ensures .0 ∙ ap filledCode (s .subsegment .ensures .0), (c .filled .ensures .1 ∙ ap filledWords (s .subsegment .ensures .0), s .subsegment .ensures .1))
+    (c .filled-told .ensures .0 ∙ ap filledCode (s .subsegment .ensures .0), (c .filled-told .ensures .1 ∙ ap filledWords (s .subsegment .ensures .0), s .subsegment .ensures .1))
 
 pub outline-subsegment-spec : {M : Type 1} → statement M
 outline-subsegment-spec =

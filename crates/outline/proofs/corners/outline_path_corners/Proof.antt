@@ -1,7 +1,7 @@
 -- `outline::corners::outline_path_corners` meets its contract. Assumes nothing.
 use mathlib.Core.Path.{ap, _∙_}
 use borrow.Author.Needs.{needs}
-use Rattle.outline.specs.Answers.{cornersCode, cornersWords}
+use Rattle.answers.specs.Answers.{cornersCode, cornersWords}
 use Rattle.outline.proofs.corners.outline_path_corners.Statement.{statement}
 use Rattle.outline.proofs.corners.outline_path_corners.Tie as tie
 

@@ -1,7 +1,7 @@
 -- `outline::hits::outline_bounds` meets its contract. Assumes nothing.
 use mathlib.Core.Path.{refl}
 use borrow.Author.Needs.{needs}
-use Rattle.outline.specs.Answers.{extentCode, extentWords, cornersLeft}
+use Rattle.answers.specs.Answers.{extentCode, extentWords, cornersLeft}
 use Rattle.outline.proofs.hits.outline_bounds.Statement.{statement}
 use Rattle.outline.proofs.hits.outline_bounds.Tie as tie
 

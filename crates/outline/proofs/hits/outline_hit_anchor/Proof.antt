@@ -1,7 +1,7 @@
 -- `outline::hits::outline_hit_anchor` meets its contract. Assumes nothing.
 use mathlib.Core.Path.{refl}
 use borrow.Author.Needs.{needs}
-use Rattle.outline.specs.Answers.{hitAnchorCode, hitAnchorWords}
+use Rattle.answers.specs.Answers.{hitAnchorCode, hitAnchorWords}
 use Rattle.outline.proofs.hits.outline_hit_anchor.Statement.{statement}
 use Rattle.outline.proofs.hits.outline_hit_anchor.Tie as tie
 

@@ -1,7 +1,7 @@
 -- `outline::hits::outline_hit_segment` meets its contract. Assumes nothing.
 use mathlib.Core.Path.{refl}
 use borrow.Author.Needs.{needs}
-use Rattle.outline.specs.Answers.{hitSegmentCode, hitSegmentWords, parameterLeft}
+use Rattle.answers.specs.Answers.{hitSegmentCode, hitSegmentWords, parameterLeft}
 use Rattle.outline.proofs.hits.outline_hit_segment.Statement.{statement}
 use Rattle.outline.proofs.hits.outline_hit_segment.Tie as tie
 

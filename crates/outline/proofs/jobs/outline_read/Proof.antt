@@ -1,7 +1,7 @@
 -- `outline::jobs::outline_read` meets its contract. Assumes nothing.
 use mathlib.Core.Path.{ap, _∙_}
 use borrow.Author.Needs.{needs}
-use Rattle.outline.specs.Answers.{jobCode, jobWords}
+use Rattle.answers.specs.Answers.{jobCode, jobWords}
 use Rattle.outline.proofs.jobs.outline_read.Statement.{statement}
 use Rattle.outline.proofs.jobs.outline_read.Tie as tie
 

@@ -1,7 +1,7 @@
 -- `outline::joins::outline_join` meets its contract. Assumes nothing.
 use mathlib.Core.Path.{ap, _∙_}
 use borrow.Author.Needs.{needs}
-use Rattle.outline.specs.Answers.{outlineCode, outlineWords}
+use Rattle.answers.specs.Answers.{outlineCode, outlineWords}
 use Rattle.outline.proofs.joins.outline_join.Statement.{statement}
 use Rattle.outline.proofs.joins.outline_join.Tie as tie
 

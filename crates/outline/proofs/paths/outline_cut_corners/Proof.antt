@@ -1,7 +1,7 @@
 -- `outline::paths::outline_cut_corners` meets its contract. Assumes nothing.
 use mathlib.Core.Path.{ap, _∙_}
 use borrow.Author.Needs.{needs}
-use Rattle.outline.specs.Answers.{outlineCode, outlineWords}
+use Rattle.answers.specs.Answers.{outlineCode, outlineWords}
 use Rattle.outline.proofs.paths.outline_cut_corners.Statement.{statement}
 use Rattle.outline.proofs.paths.outline_cut_corners.Tie as tie
 

@@ -1,7 +1,7 @@
 -- `outline::paths::outline_to_svg_d` meets its contract. Assumes nothing.
 use mathlib.Core.Path.{ap, _∙_}
 use borrow.Author.Needs.{needs}
-use Rattle.outline.specs.Answers.{textCode, textWords}
+use Rattle.answers.specs.Answers.{textCode, textWords}
 use Rattle.outline.proofs.paths.outline_to_svg_d.Statement.{statement}
 use Rattle.outline.proofs.paths.outline_to_svg_d.Tie as tie
 

@@ -1,7 +1,7 @@
 -- `outline::paths::outline_write_num` meets its contract. Assumes nothing.
 use mathlib.Core.Path.{ap, _∙_}
 use borrow.Author.Needs.{needs}
-use Rattle.outline.specs.Answers.{textCode, textWords}
+use Rattle.answers.specs.Answers.{textCode, textWords}
 use Rattle.outline.proofs.paths.outline_write_num.Statement.{statement}
 use Rattle.outline.proofs.paths.outline_write_num.Tie as tie
 

@@ -1,7 +1,7 @@
 -- `outline::sessions::outline_move_anchor` meets its contract. Assumes nothing.
 use mathlib.Core.Path.{ap, _∙_}
 use borrow.Author.Needs.{needs}
-use Rattle.outline.specs.Answers.{editedCode, editedWords}
+use Rattle.answers.specs.Answers.{editedCode, editedWords}
 use Rattle.outline.proofs.sessions.outline_move_anchor.Statement.{statement}
 use Rattle.outline.proofs.sessions.outline_move_anchor.Tie as tie
 

@@ -1,7 +1,7 @@
 -- `outline::sessions::outline_replay` meets its contract: what `replay` ensures, handed on. Assumes nothing.
 use mathlib.Core.Path.{ap, _∙_}
 use borrow.Author.Needs.{needs}
-use Rattle.outline.specs.Answers.{replayedCode, replayedWords}
+use Rattle.answers.specs.Answers.{replayedCode, replayedWords}
 use Rattle.outline.proofs.sessions.outline_replay.Statement.{statement}
 use Rattle.outline.proofs.sessions.outline_replay.Tie as tie
 

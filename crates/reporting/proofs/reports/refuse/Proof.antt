@@ -2,7 +2,7 @@
 use mathlib.Core.Path.{refl}
 use native.Mathlib.Omega.{arith}
 use borrow.Author.Needs.{needs}
-use Rattle.reporting.proofs.Rooms.{refused-room}
+use Rattle.call_lines.proofs.Rooms.{refused-room}
 use Rattle.reporting.proofs.reports.refuse.Statement.{statement}
 use Rattle.reporting.proofs.reports.refuse.Tie as tie
 

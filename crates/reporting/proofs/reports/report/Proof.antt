@@ -8,7 +8,8 @@ use lib.Seq.{length-take-le}
 use borrow.Author.Needs.{needs}
 use Rattle.real.specs.Operators.{0f}
 use Rattle.decimal.proofs.Puts.{nothing}
-use Rattle.reporting.proofs.Inputs.{Reads, reads, codes-taken, values-taken, codes-length, values-length, rest, report-refused, report-calls}
+use Rattle.call_list.proofs.Inputs.{Reads, reads, codes-taken, values-taken, codes-length, values-length}
+use Rattle.reporting.proofs.Inputs.{rest, report-refused, report-calls}
 use Rattle.reporting.proofs.reports.report.Statement.{statement}
 use Rattle.reporting.proofs.reports.report.Tie as tie
 

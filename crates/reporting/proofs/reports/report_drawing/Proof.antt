@@ -21,7 +21,7 @@ use Rattle.replay.specs.declared.calls.Replayed.the-variants as replayed
 use Rattle.printing.specs.Printed.{fitted}
 use Rattle.reporting.specs.Gathered.{heldText, Gathers}
 use Rattle.reporting.specs.Report.{roomy}
-use Rattle.reporting.proofs.Rooms.{fitted-room}
+use Rattle.call_lines.proofs.Rooms.{fitted-room}
 use Rattle.reporting.proofs.Replays.{calls-fit, refused-report, Runs, done-runs, runs-sound, runs-gather, runs-report}
 use Rattle.reporting.proofs.reports.report_drawing.Statement.{statement}
 use Rattle.reporting.proofs.reports.report_drawing.Tie as tie
