@@ -10,54 +10,32 @@ use lib.Dec.{ltb}
 use lib.Ieee.{Float, nan}
 use borrow.Author.Tests.{ltb-true, ltb-false}
 use Rattle.views.specs.View.{entry, tabulate}
-use Rattle.views.specs.Search.{all}
 use Rattle.views.proofs.Laws.{same, order, length-tabulate, at-tabulate, as-overwrite}
-use Rattle.views.proofs.Searches.{all-cong}
-use Rattle.real.specs.Limit.{inLimit}
 use Rattle.refusal.specs.Order.{passes, judge, accepted, refused}
 use Rattle.path.specs.declared.anchor.Anchor.{Anchor}
 use Rattle.path.specs.Flat.{anchorAt, numbers, anchorNumbers, putAnchor, nth, listed}
-use Rattle.path.specs.Limit.{anchorIn}
+use Rattle.path.specs.Limit.{anchorGood, anchorIn}
 use Rattle.path.proofs.Limits.{GoodBelow}
+use Rattle.path.proofs.Anchors.{anchor-good}
 use Rattle.path.proofs.Places.{anchor-number, numbers-at, length-put, put-out, at-put, at-put-other}
 use Rattle.call.specs.Tests.{outlineIn, outlineLimit}
 use Rattle.call.proofs.Openings.{places-fail, places-pass}
 use Rattle.transform.proofs.Laid.{listed-table}
 use Rattle.path.specs.declared.limit.Found.the-variants.{At, Nothing}
-use Rattle.bend.specs.Edits.{pointIn, anchorWithin, lastVerdict, firstOut}
-
--- ---- an anchor within the limit, by its points and by its numbers
-six : (a b c d e f : Bool) → (a && (b && (c && (d && (e && (f && true)))))) ≡ ((a && b) && ((c && d) && (e && f)))
-six false b c d e f = refl
-six true false c d e f = refl
-six true true false d e f = refl
-six true true true false e f = refl
-six true true true true false f = refl
-six true true true true true false = refl
-six true true true true true true = refl
-
-within-all : (a : Anchor) → all (λ i. inLimit (entry (numbers a) i)) 6 ≡ anchorWithin a
-unfolding all numbers anchorWithin pointIn
-within-all a =
-    six (inLimit (a .p .x)) (inLimit (a .p .y)) (inLimit (a .«h_in» .x)) (inLimit (a .«h_in» .y)) (inLimit (a .«h_out» .x)) (inLimit (a .«h_out» .y))
-
-pub given-within : (xs : List Float) (k : ℕ) → anchorIn xs k ≡ anchorWithin (anchorAt xs k)
-unfolding anchorIn
-given-within xs k =
-    all-cong _ _ 6 (λ i l. ap inLimit (sym (numbers-at xs (k * 6 + i)) ∙ anchor-number (anchorAt xs) k i l)) ∙ within-all (anchorAt xs k)
+use Rattle.bend.specs.Edits.{lastVerdict, firstOut}
 
 -- ---- n anchors f 0, f 1, ..
 module _ (n : ℕ) (f : ℕ → Anchor) where
-  made-within : (k : ℕ) → k < n → outlineIn (tabulate n f) k ≡ anchorWithin (f k)
+  made-within : (k : ℕ) → k < n → outlineIn (tabulate n f) k ≡ anchorGood (f k)
   unfolding outlineIn nth
-  made-within k l = ap (λ a. all (λ i. inLimit (entry (numbers a) i)) 6) (at-tabulate _ n f k l) ∙ within-all (f k)
+  made-within k l = ap anchorGood (at-tabulate _ n f k l)
 
-  pub made-bad : (k : ℕ) → k < n → anchorWithin (f k) ≡ false → ((q : ℕ) → q < k → anchorWithin (f q) ≡ true) → lastVerdict (tabulate n f) ≡ refused 9 k
+  pub made-bad : (k : ℕ) → k < n → anchorGood (f k) ≡ false → ((q : ℕ) → q < k → anchorGood (f q) ≡ true) → lastVerdict (tabulate n f) ≡ refused 9 k
   unfolding lastVerdict outlineLimit judge
   made-bad k l e below =
       rw (length-tabulate n f, places-fail (outlineIn (tabulate n f)) n passes k (record { place = l; bad = made-within k l ∙ e; below = λ q h. made-within q (omega arith) ∙ below q h }))
 
-  pub made-good : ((q : ℕ) → q < n → anchorWithin (f q) ≡ true) → lastVerdict (tabulate n f) ≡ accepted
+  pub made-good : ((q : ℕ) → q < n → anchorGood (f q) ≡ true) → lastVerdict (tabulate n f) ≡ accepted
   unfolding lastVerdict outlineLimit judge
   made-good h = rw (length-tabulate n f, places-pass (outlineIn (tabulate n f)) n passes (λ q l. made-within q l ∙ h q l))
 
@@ -74,8 +52,8 @@ module _ (n : ℕ) (f : ℕ → Anchor) where
 
 -- ---- a path of n anchors, all within the limit
 module _ (xs : List Float) (n : ℕ) (f : ℕ → Anchor) (good : GoodBelow (anchorIn xs) n) (long : n * 6 ≤ length xs) where
-  kept : (q : ℕ) → q < n → f q ≡ anchorAt xs q → anchorWithin (f q) ≡ true
-  kept q l e = ap anchorWithin e ∙ sym (given-within xs q) ∙ good q l
+  kept : (q : ℕ) → q < n → f q ≡ anchorAt xs q → anchorGood (f q) ≡ true
+  kept q l e = ap anchorGood e ∙ sym (anchor-good xs q) ∙ good q l
 
   -- no anchor anew
   module _ (all-kept : (q : ℕ) → f q ≡ anchorAt xs q) where
@@ -87,11 +65,11 @@ module _ (xs : List Float) (n : ℕ) (f : ℕ → Anchor) (good : GoodBelow (anc
 
   -- one anchor anew
   module _ (k : ℕ) (a : Anchor) (inside : k < n) (new : f k ≡ a) (others : (q : ℕ) → (q ≡ k → ⊥) → f q ≡ anchorAt xs q) where
-    pub one-bad : anchorWithin a ≡ false → lastVerdict (tabulate n f) ≡ refused 9 k
-    one-bad e = made-bad n f k inside (ap anchorWithin new ∙ e) (λ q l. kept q (omega arith) (others q (λ p. omega arith)))
+    pub one-bad : anchorGood a ≡ false → lastVerdict (tabulate n f) ≡ refused 9 k
+    one-bad e = made-bad n f k inside (ap anchorGood new ∙ e) (λ q l. kept q (omega arith) (others q (λ p. omega arith)))
 
-    pub one-good : anchorWithin a ≡ true → lastVerdict (tabulate n f) ≡ accepted
-    one-good e = made-good n f (λ q l. ⊎-elim (λ p. ap (λ z. anchorWithin (f z)) p ∙ ap anchorWithin new ∙ e) (λ ne. kept q l (others q ne)) (same q k))
+    pub one-good : anchorGood a ≡ true → lastVerdict (tabulate n f) ≡ accepted
+    one-good e = made-good n f (λ q l. ⊎-elim (λ p. ap (λ z. anchorGood (f z)) p ∙ ap anchorGood new ∙ e) (λ ne. kept q l (others q ne)) (same q k))
 
     pub one-put : putAnchor xs k a ≡ listed (tabulate n f) xs
     one-put = by-places n f xs (putAnchor xs k a) (length-put xs k a) at (λ j l. put-out xs k a j (inr (omega arith)))
@@ -102,18 +80,18 @@ module _ (xs : List Float) (n : ℕ) (f : ℕ → Anchor) (good : GoodBelow (anc
   -- two anchors anew
   module _ (i j : ℕ) (a b : Anchor) (apart : i ≡ j → ⊥) (i-inside : i < n) (j-inside : j < n) (new-i : f i ≡ a) (new-j : f j ≡ b)
       (others : (q : ℕ) → (q ≡ i → ⊥) → (q ≡ j → ⊥) → f q ≡ anchorAt xs q) where
-    within-below : (m : ℕ) → (i < m → anchorWithin a ≡ true) → (j < m → anchorWithin b ≡ true) → (q : ℕ) → q < m → q < n → anchorWithin (f q) ≡ true
+    within-below : (m : ℕ) → (i < m → anchorGood a ≡ true) → (j < m → anchorGood b ≡ true) → (q : ℕ) → q < m → q < n → anchorGood (f q) ≡ true
     within-below m wa wb q l h =
         ⊎-elim
-        (λ e. ap (λ z. anchorWithin (f z)) e ∙ ap anchorWithin new-i ∙ wa (omega arith))
-        (λ ni. ⊎-elim (λ e. ap (λ z. anchorWithin (f z)) e ∙ ap anchorWithin new-j ∙ wb (omega arith)) (λ nj. kept q h (others q ni nj)) (same q j))
+        (λ e. ap (λ z. anchorGood (f z)) e ∙ ap anchorGood new-i ∙ wa (omega arith))
+        (λ ni. ⊎-elim (λ e. ap (λ z. anchorGood (f z)) e ∙ ap anchorGood new-j ∙ wb (omega arith)) (λ nj. kept q h (others q ni nj)) (same q j))
         (same q i)
 
-    i-bad : anchorWithin a ≡ false → (j < i → anchorWithin b ≡ true) → lastVerdict (tabulate n f) ≡ refused 9 i
-    i-bad e wb = made-bad n f i i-inside (ap anchorWithin new-i ∙ e) (λ q l. within-below i (λ h. absurd (omega arith)) wb q l (omega arith))
+    i-bad : anchorGood a ≡ false → (j < i → anchorGood b ≡ true) → lastVerdict (tabulate n f) ≡ refused 9 i
+    i-bad e wb = made-bad n f i i-inside (ap anchorGood new-i ∙ e) (λ q l. within-below i (λ h. absurd (omega arith)) wb q l (omega arith))
 
-    j-bad : anchorWithin b ≡ false → (i < j → anchorWithin a ≡ true) → lastVerdict (tabulate n f) ≡ refused 9 j
-    j-bad e wa = made-bad n f j j-inside (ap anchorWithin new-j ∙ e) (λ q l. within-below j wa (λ h. absurd (omega arith)) q l (omega arith))
+    j-bad : anchorGood b ≡ false → (i < j → anchorGood a ≡ true) → lastVerdict (tabulate n f) ≡ refused 9 j
+    j-bad e wa = made-bad n f j j-inside (ap anchorGood new-j ∙ e) (λ q l. within-below j wa (λ h. absurd (omega arith)) q l (omega arith))
 
     different : (place : ℕ) → Nothing ≡ At place → ⊥
     different place e = let z : _≡_ {A = ℕ} 0 1 = cc in omega arith
@@ -123,9 +101,9 @@ module _ (xs : List Float) (n : ℕ) (f : ℕ → Anchor) (good : GoodBelow (anc
 
     pub two-bad : (place : ℕ) → firstOut i a j b ≡ At place → lastVerdict (tabulate n f) ≡ refused 9 place
     unfolding firstOut
-    two-bad place = go (anchorWithin a) (anchorWithin b) (ltb i j) refl refl refl
+    two-bad place = go (anchorGood a) (anchorGood b) (ltb i j) refl refl refl
       where
-        go : (x y z : Bool) → anchorWithin a ≡ x → anchorWithin b ≡ y → ltb i j ≡ z
+        go : (x y z : Bool) → anchorGood a ≡ x → anchorGood b ≡ y → ltb i j ≡ z
             → cond x (cond y Nothing (At j)) (cond z (At i) (cond y (At i) (At j))) ≡ At place → lastVerdict (tabulate n f) ≡ refused 9 place
         go true true z ea eb el e = absurd (different place e)
         go true false z ea eb el e = j-bad eb (λ h. ea) ∙ ap (refused 9) (same-place j place e)
@@ -135,9 +113,9 @@ module _ (xs : List Float) (n : ℕ) (f : ℕ → Anchor) (good : GoodBelow (anc
 
     pub two-good : firstOut i a j b ≡ Nothing → lastVerdict (tabulate n f) ≡ accepted
     unfolding firstOut
-    two-good = go (anchorWithin a) (anchorWithin b) (ltb i j) refl refl
+    two-good = go (anchorGood a) (anchorGood b) (ltb i j) refl refl
       where
-        go : (x y z : Bool) → anchorWithin a ≡ x → anchorWithin b ≡ y
+        go : (x y z : Bool) → anchorGood a ≡ x → anchorGood b ≡ y
             → cond x (cond y Nothing (At j)) (cond z (At i) (cond y (At i) (At j))) ≡ Nothing → lastVerdict (tabulate n f) ≡ accepted
         go true true z ea eb e = made-good n f (λ q l. within-below n (λ h. ea) (λ h. eb) q l l)
         go true false z ea eb e = absurd (different j (sym e))

@@ -14,18 +14,9 @@ use Rattle.path.specs.Flat.{anchorAt}
 use Rattle.path.proofs.Shapes.{total-in}
 use Rattle.bend.specs.declared.neighbours.Beside.{Beside}
 use Rattle.bend.specs.Smoothed.{pointBefore, pointAfter, smoothed, smoothedAt}
-use Rattle.bend.specs.Edits.{hasAnchor, smoothAt}
+use Rattle.bend.specs.Edits.{smoothAt}
 
 module _ (shapes : List ℕ) (s k : ℕ) where
-  pub has-anchor-says : hasAnchor shapes s k ≡ true → (s < length shapes) × (k < countOf (wordAt shapes s))
-  unfolding hasAnchor
-  has-anchor-says = go (ltb s (length shapes)) (ltb k (countOf (wordAt shapes s))) refl refl
-    where
-      go : (p q : Bool) → ltb s (length shapes) ≡ p → ltb k (countOf (wordAt shapes s)) ≡ q → (p && q) ≡ true → (s < length shapes) × (k < countOf (wordAt shapes s))
-      go true true e f h = (ltb-true _ _ e, ltb-true _ _ f)
-      go true false e f h = absurd (true≢false (sym h))
-      go false q e f h = absurd (true≢false (sym h))
-
   pub place-inside : s < length shapes → k < countOf (wordAt shapes s) → start shapes s + k < total shapes
   place-inside h l = omega (arith, total-in shapes s h)
 

@@ -8,12 +8,14 @@ use lib.Ieee.{Float}
 use Rattle.views.specs.View.{tabulate}
 use Rattle.real.specs.Limit.{inLimit}
 use Rattle.geom.specs.declared.point.P.{P}
+use Rattle.geom.specs.Point.{pointIn}
 use Rattle.refusal.specs.Order.{passes, holds, judge, Verdict, accepted, verdict, tests}
 use Rattle.path.specs.declared.anchor.Anchor.{Anchor}
 use Rattle.path.specs.declared.limit.Found.{Found}
 use Rattle.path.specs.declared.limit.Found.the-variants as found
-use Rattle.path.specs.Shape.{countOf, closedOf, total, wordAt, start, isSegment, next}
+use Rattle.path.specs.Shape.{countOf, closedOf, total, wordAt, start, hasAnchor, isSegment, next}
 use Rattle.path.specs.Flat.{anchorAt}
+use Rattle.path.specs.Limit.{anchorGood}
 use Rattle.call.specs.declared.answers.Outline.{Outline}
 use Rattle.call.specs.Tests.{pathFits, pathLimit, outlineLimit}
 use Rattle.call.specs.Answers.{outlineAnswer, anchorsLeft}
@@ -29,17 +31,7 @@ editVerdict shapes anchors loose known after =
 unfoldable pub lastVerdict : List Anchor → Verdict
 lastVerdict after = judge (outlineLimit after) 9 accepted
 
--- a point, and an anchor, within the limit
-unfoldable pub pointIn : P → Bool
-pointIn p = inLimit (p .x) && inLimit (p .y)
-
-unfoldable pub anchorWithin : Anchor → Bool
-anchorWithin a = pointIn (a .p) && (pointIn (a .«h_in») && pointIn (a .«h_out»))
-
 -- ---- `auto_smooth` of anchor k of subpath s
-unfoldable pub hasAnchor : List ℕ → ℕ → ℕ → Bool
-hasAnchor shapes s k = ltb s (length shapes) && ltb k (countOf (wordAt shapes s))
-
 -- the anchor at a place afterwards; a subpath of one anchor stays as it is
 unfoldable pub smoothAt : List ℕ → List Float → ℕ → ℕ → ℕ → Anchor
 smoothAt shapes anchors s k place =
@@ -88,5 +80,5 @@ bendLeft shapes anchors s a t delta keep =
 -- the lower of two places whose new anchors are beyond the limit
 unfoldable pub firstOut : ℕ → Anchor → ℕ → Anchor → Found
 firstOut i a j b =
-    cond (anchorWithin a) (cond (anchorWithin b) found.Nothing (found.At j))
-    (cond (ltb i j) (found.At i) (cond (anchorWithin b) (found.At i) (found.At j)))
+    cond (anchorGood a) (cond (anchorGood b) found.Nothing (found.At j))
+    (cond (ltb i j) (found.At i) (cond (anchorGood b) (found.At i) (found.At j)))

@@ -10,14 +10,10 @@ ghost use Rattle.bend.specs.Edits.{hasBend, lastVerdict, smoothPath, smo
 use crate::bending::bent_in;
 use crate::bending::bent_out;
 use crate::bending::pull;
-use crate::limits::anchor_in_limit;
 use crate::limits::first_out;
-use crate::limits::point_in_limit;
 use crate::neighbours::point_after;
 use crate::neighbours::point_before;
-use crate::places::has_anchor;
 use crate::places::has_bend;
-use crate::places::start_of;
 use crate::smoothing::smoothed;
 use call::Opened;
 use call::Outline;
@@ -33,7 +29,7 @@ pub fn auto_smooth(shapes: &[u32], anchors: &mut [f64], s: usize, k: usize) -> O
     match opened {
         Opened::Refused(n, place) => Outline::Refused(n, place),
         Opened::Anchors(count) => {
-            if !has_anchor(shapes, s, k) {
+            if !path::has_anchor(shapes, s, k) {
                 return Outline::Refused(refusal::REFERENCE, 0);
             }
             smooth_known(shapes, anchors, s, k, count)
@@ -52,12 +48,12 @@ fn smooth_known(shapes: &[u32], anchors: &mut [f64], s: usize, k: usize, count: 
         return Outline::Accepted(shapes.len(), count);
     }
     let closed = path::closed_of(shapes[s]);
-    let first = start_of(shapes, s);
+    let first = path::start_of(shapes, s);
     let before = point_before(anchors, first, n, closed, k);
     let after = point_after(anchors, first, n, closed, k);
     let place = first + k;
     let a = smoothed(before, path::anchor_at(anchors, place), after);
-    if !anchor_in_limit(a) {
+    if !a.in_limit() {
         return Outline::Refused(refusal::RESULT, place);
     }
     path::put_anchor(anchors, place, a);
@@ -85,7 +81,7 @@ pub fn bend_segment(
             if !real::in_limit(t) {
                 return Outline::Refused(refusal::ARGUMENTS, count);
             }
-            if !point_in_limit(delta) {
+            if !delta.in_limit() {
                 return Outline::Refused(refusal::ARGUMENTS, count);
             }
             if !has_bend(shapes, s, a) {
@@ -114,7 +110,7 @@ fn bend_known(
     if n < 2 {
         return Outline::Accepted(shapes.len(), count);
     }
-    let first = start_of(shapes, s);
+    let first = path::start_of(shapes, s);
     let i = first + a;
     let j = first + path::next(n, a);
     let from = bent_out(v, keep, path::anchor_at(anchors, i));

@@ -1,31 +1,15 @@
-// The limit on points and anchors.
+// The limit on two new anchors.
 ghost use mathlib.Core.Path.{_≡_};
-ghost use Rattle.bend.specs.Edits.{pointIn, anchorWithin, firstOut};
-use geom::P;
+ghost use Rattle.bend.specs.Edits.{firstOut};
 use path::Anchor;
 use path::Found;
-
-pub fn point_in_limit(p: P) -> bool
-    ensures { λ r. ⌜ r ≡ pointIn p ⌝ }
-{
-    real::in_limit(p.x) && real::in_limit(p.y)
-}
-
-pub fn anchor_in_limit(a: Anchor) -> bool
-    ensures { λ r. ⌜ r ≡ anchorWithin a ⌝ }
-{
-    if !point_in_limit(a.p) {
-        return false;
-    }
-    point_in_limit(a.h_in) && point_in_limit(a.h_out)
-}
 
 // The lower of two places whose new anchors break the limit.
 pub fn first_out(i: usize, a: Anchor, j: usize, b: Anchor) -> Found
     ensures { λ r. ⌜ r ≡ firstOut i a j b ⌝ }
 {
-    if anchor_in_limit(a) {
-        if anchor_in_limit(b) {
+    if a.in_limit() {
+        if b.in_limit() {
             return Found::Nothing;
         }
         return Found::At(j);
@@ -33,7 +17,7 @@ pub fn first_out(i: usize, a: Anchor, j: usize, b: Anchor) -> Found
     if i < j {
         return Found::At(i);
     }
-    if anchor_in_limit(b) {
+    if b.in_limit() {
         return Found::At(i);
     }
     Found::At(j)

@@ -6,6 +6,7 @@ use mathlib.Core.List.{List}
 use Prim.Native.Nat.{ℕ}
 use native.Mathlib.Omega.{arith}
 use lib.Ieee.{Float}
+use Rattle.views.proofs.Searches.{both}
 use Rattle.refusal.specs.Order.{Test, passes, fails, holds, judge, Verdict, accepted, refused, verdict, tests}
 use Rattle.refusal.proofs.Verdicts.{in-order}
 use Rattle.path.specs.Shape.{total}
@@ -38,10 +39,6 @@ holds-says : (b : Bool) (k : ℕ) → holds b k ≡ passes → b ≡ true
 unfolding holds
 holds-says true k e = refl
 holds-says false k e = absurd (failing k e)
-
-pub both : (a b : Bool) → (a && b) ≡ true → (a ≡ true) × (b ≡ true)
-both true b e = (refl, e)
-both false b e = absurd (true≢false (sym e))
 
 -- every test passes
 pub accepted-says : (l a r c m o : Test) → verdict (tests l a r c m o) ≡ accepted → (l ≡ passes) × (a ≡ passes) × (m ≡ passes) × (o ≡ passes)

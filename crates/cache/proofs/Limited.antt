@@ -11,6 +11,8 @@ use lib.Dec.{ltb, eqb}
 use lib.ListN.{length}
 use lib.Ieee.{ofBits}
 use borrow.Author.Tests.{lt-ltb, ltb-true, eqb-true}
+use Rattle.path.specs.Limit.{anchorGood}
+use Rattle.views.proofs.Searches.{both}
 use Rattle.views.specs.View.{entry}
 use Rattle.views.specs.Search.{all}
 use Rattle.views.proofs.Laws.{same}
@@ -32,35 +34,30 @@ use Rattle.assembly.specs.Assembled.{subpathOutline, outlineUpTo, outlineOf}
 use Rattle.call.specs.Tests.{outlineIn}
 use Rattle.cache.specs.Cache.{placeOfPath, cachedIn}
 use Rattle.cache.proofs.Subpaths.{located}
-use Rattle.cache.proofs.Accepted.{both}
 
 all-of : (a b : Bool) → a ≡ true → b ≡ true → (a && b) ≡ true
 all-of a b e f = rw (e, f)
 
--- the six numbers of an anchor
-unfoldable good : Anchor → Bool
-good a = all (λ i. inLimit (entry (numbers a) i)) 6
-
 -- every anchor of a list
 unfoldable every : List Anchor → Bool
 every [] = true
-every (a ∷ ps) = good a && every ps
+every (a ∷ ps) = anchorGood a && every ps
 
 every-in : (ps : List Anchor) → every ps ≡ true → GoodBelow (outlineIn ps) (length ps)
-unfolding every outlineIn nth good
+unfolding every outlineIn nth anchorGood
 every-in [] e j l = absurd (not-suc-le-zero l)
-every-in (a ∷ ps) e zero l = both (good a) (every ps) e .0
-every-in (a ∷ ps) e (suc j) l = every-in ps (both (good a) (every ps) e .1) j (le-of-suc-le-suc l)
+every-in (a ∷ ps) e zero l = both (anchorGood a) (every ps) e .0
+every-in (a ∷ ps) e (suc j) l = every-in ps (both (anchorGood a) (every ps) e .1) j (le-of-suc-le-suc l)
 
 in-every : (ps : List Anchor) → GoodBelow (outlineIn ps) (length ps) → every ps ≡ true
-unfolding every outlineIn nth good
+unfolding every outlineIn nth anchorGood
 in-every [] g = refl
-in-every (a ∷ ps) g = all-of (good a) (every ps) (g zero (suc-le-suc zero-le)) (in-every ps (λ j l. g (suc j) (suc-le-suc l)))
+in-every (a ∷ ps) g = all-of (anchorGood a) (every ps) (g zero (suc-le-suc zero-le)) (in-every ps (λ j l. g (suc j) (suc-le-suc l)))
 
 every-append : (ps qs : List Anchor) → every (ps ++ qs) ≡ (every ps && every qs)
 unfolding every
 every-append [] qs = refl
-every-append (a ∷ ps) qs = go (good a) (every-append ps qs)
+every-append (a ∷ ps) qs = go (anchorGood a) (every-append ps qs)
   where
     go : (b : Bool) → every (ps ++ qs) ≡ (every ps && every qs) → (b && every (ps ++ qs)) ≡ ((b && every ps) && every qs)
     go true e = e
@@ -81,34 +78,34 @@ joined-every g (suc n) h = every-append (joined g n) (g n) ∙ all-of (every (jo
 
 -- ---- what is handed out of a place: its start, and its end where it is cut
 unfoldable handed : Place → Bool
-handed p = good (p .start) && cond (p .cut) (good (p .end)) true
+handed p = anchorGood (p .start) && cond (p .cut) (anchorGood (p .end)) true
 
 -- b says that the place is cut, d that its start is held back
-out-of : (b d : Bool) (x y : Anchor) → every (cond b (cond d (y ∷ []) (x ∷ y ∷ [])) (x ∷ [])) ≡ true → (b ≡ true → d ≡ true → good x ≡ true) → (good x && cond b (good y) true) ≡ true
+out-of : (b d : Bool) (x y : Anchor) → every (cond b (cond d (y ∷ []) (x ∷ y ∷ [])) (x ∷ [])) ≡ true → (b ≡ true → d ≡ true → anchorGood x ≡ true) → (anchorGood x && cond b (anchorGood y) true) ≡ true
 unfolding every
-out-of false d x y e h = all-of (good x) true (both (good x) true e .0) refl
-out-of true true x y e h = all-of (good x) (good y) (h refl refl) (both (good y) true e .0)
+out-of false d x y e h = all-of (anchorGood x) true (both (anchorGood x) true e .0) refl
+out-of true true x y e h = all-of (anchorGood x) (anchorGood y) (h refl refl) (both (anchorGood y) true e .0)
 out-of true false x y e h =
-    let b = both (good x) (good y && true) e in
-    all-of (good x) (good y) (b .0) (both (good y) true (b .1) .0)
+    let b = both (anchorGood x) (anchorGood y && true) e in
+    all-of (anchorGood x) (anchorGood y) (b .0) (both (anchorGood y) true (b .1) .0)
 
-into : (b d : Bool) (x y : Anchor) → (good x && cond b (good y) true) ≡ true → every (cond b (cond d (y ∷ []) (x ∷ y ∷ [])) (x ∷ [])) ≡ true
+into : (b d : Bool) (x y : Anchor) → (anchorGood x && cond b (anchorGood y) true) ≡ true → every (cond b (cond d (y ∷ []) (x ∷ y ∷ [])) (x ∷ [])) ≡ true
 unfolding every
-into false d x y e = all-of (good x) true (both (good x) true e .0) refl
-into true true x y e = all-of (good y) true (both (good x) (good y) e .1) refl
+into false d x y e = all-of (anchorGood x) true (both (anchorGood x) true e .0) refl
+into true true x y e = all-of (anchorGood y) true (both (anchorGood x) (anchorGood y) e .1) refl
 into true false x y e =
-    let b = both (good x) (good y) e in
-    all-of (good x) (good y && true) (b .0) (all-of (good y) true (b .1) refl)
+    let b = both (anchorGood x) (anchorGood y) e in
+    all-of (anchorGood x) (anchorGood y && true) (b .0) (all-of (anchorGood y) true (b .1) refl)
 
 module _ (n : ℕ) (c : Bool) (f : ℕ → Place) where
   -- the start that is held back
-  held-in : every (heldBack n c f) ≡ true → (i : ℕ) → i < n → f i .cut ≡ true → (c && eqb i 0) ≡ true → good (f i .start) ≡ true
+  held-in : every (heldBack n c f) ≡ true → (i : ℕ) → i < n → f i .cut ≡ true → (c && eqb i 0) ≡ true → anchorGood (f i .start) ≡ true
   unfolding heldBack every
   held-in e i l cut d =
       let b = both c (eqb i 0) d in
       let z : i ≡ 0 = eqb-true i 0 (b .1) in
       let cut0 : f 0 .cut ≡ true = rw z at cut in
-      rw z (both (good (f 0 .start)) true (rw (b .0, lt-ltb 0 n (omega arith), cut0) at e) .0)
+      rw z (both (anchorGood (f 0 .start)) true (rw (b .0, lt-ltb 0 n (omega arith), cut0) at e) .0)
 
   in-held : ((i : ℕ) → i < n → handed (f i) ≡ true) → every (heldBack n c f) ≡ true
   unfolding heldBack every handed
@@ -117,7 +114,7 @@ module _ (n : ℕ) (c : Bool) (f : ℕ → Place) where
       go : (b : Bool) → (c && (ltb 0 n && f 0 .cut)) ≡ b → every (cond b (f 0 .start ∷ []) []) ≡ true
       go true e =
           let l = both (ltb 0 n) (f 0 .cut) (both c (ltb 0 n && f 0 .cut) e .1) .0 in
-          all-of (good (f 0 .start)) true (both (good (f 0 .start)) (cond (f 0 .cut) (good (f 0 .end)) true) (h 0 (ltb-true 0 n l)) .0) refl
+          all-of (anchorGood (f 0 .start)) true (both (anchorGood (f 0 .start)) (cond (f 0 .cut) (anchorGood (f 0 .end)) true) (h 0 (ltb-true 0 n l)) .0) refl
       go false e = refl
 
   assembled-handed : every (assembled n c f) ≡ true → (i : ℕ) → i < n → handed (f i) ≡ true
@@ -174,17 +171,17 @@ six true true false d e f r = refl
 six true false c d e f r = refl
 six false b c d e f r = refl
 
-twelve : (p : Place) → all (λ i. inLimit (entry (placeNumbers p) i)) 12 ≡ (good (p .start) && good (p .end))
-unfolding good placeNumbers numbers all
+twelve : (p : Place) → all (λ i. inLimit (entry (placeNumbers p) i)) 12 ≡ (anchorGood (p .start) && anchorGood (p .end))
+unfolding anchorGood placeNumbers numbers all
 twelve p =
     let a = p .start in
-    six (inLimit (a .p .x)) (inLimit (a .p .y)) (inLimit (a .«h_in» .x)) (inLimit (a .«h_in» .y)) (inLimit (a .«h_out» .x)) (inLimit (a .«h_out» .y)) (good (p .end))
+    six (inLimit (a .p .x)) (inLimit (a .p .y)) (inLimit (a .«h_in» .x)) (inLimit (a .«h_in» .y)) (inLimit (a .«h_out» .x)) (inLimit (a .«h_out» .y)) (anchorGood (p .end))
 
-zeros : good (withoutHandles origin) ≡ true
-unfolding good all numbers inLimit ofBits
+zeros : anchorGood (withoutHandles origin) ≡ true
+unfolding anchorGood all numbers inLimit ofBits
 zeros = refl
 
-uncut-good : (a : Anchor) (b : Bool) (c : Cut) (p q : P) → placeOf a b c p q .cut ≡ false → good (placeOf a b c p q .end) ≡ true
+uncut-good : (a : Anchor) (b : Bool) (c : Cut) (p q : P) → placeOf a b c p q .cut ≡ false → anchorGood (placeOf a b c p q .end) ≡ true
 unfolding placeOf
 uncut-good a true c p q e = absurd (true≢false e)
 uncut-good a false c p q e = zeros
@@ -196,15 +193,15 @@ module _ (shapes : List ℕ) (view : ℕ → View) (k : ℕ) where
   cached-handed : cachedIn (placeOfPath shapes view) k ≡ true → handed at ≡ true
   unfolding handed cachedIn
   cached-handed e =
-      let b = both (good (at .start)) (good (at .end)) (sym (twelve at) ∙ e) in
-      all-of (good (at .start)) (cond (at .cut) (good (at .end)) true) (b .0) (go (at .cut) (b .1))
+      let b = both (anchorGood (at .start)) (anchorGood (at .end)) (sym (twelve at) ∙ e) in
+      all-of (anchorGood (at .start)) (cond (at .cut) (anchorGood (at .end)) true) (b .0) (go (at .cut) (b .1))
     where
-      go : (d : Bool) → good (at .end) ≡ true → cond d (good (at .end)) true ≡ true
+      go : (d : Bool) → anchorGood (at .end) ≡ true → cond d (anchorGood (at .end)) true ≡ true
       go true h = h
       go false h = refl
 
   -- an end that is not handed out is of zeros
-  end-good : at .cut ≡ false → good (at .end) ≡ true
+  end-good : at .cut ≡ false → anchorGood (at .end) ≡ true
   unfolding placeOfPath placeAt
   end-good e =
       let s = subOf shapes k in
@@ -215,10 +212,10 @@ module _ (shapes : List ℕ) (view : ℕ → View) (k : ℕ) where
   handed-cached : handed at ≡ true → cachedIn (placeOfPath shapes view) k ≡ true
   unfolding handed cachedIn
   handed-cached e =
-      let b = both (good (at .start)) (cond (at .cut) (good (at .end)) true) e in
-      twelve at ∙ all-of (good (at .start)) (good (at .end)) (b .0) (go (at .cut) refl (b .1))
+      let b = both (anchorGood (at .start)) (cond (at .cut) (anchorGood (at .end)) true) e in
+      twelve at ∙ all-of (anchorGood (at .start)) (anchorGood (at .end)) (b .0) (go (at .cut) refl (b .1))
     where
-      go : (d : Bool) → at .cut ≡ d → cond d (good (at .end)) true ≡ true → good (at .end) ≡ true
+      go : (d : Bool) → at .cut ≡ d → cond d (anchorGood (at .end)) true ≡ true → anchorGood (at .end) ≡ true
       go true q h = h
       go false q h = end-good q
 

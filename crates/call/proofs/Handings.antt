@@ -18,7 +18,7 @@ use Rattle.refusal.specs.Order.{passes, holds, judge, Verdict, accepted, refuse
 use Rattle.path.specs.declared.anchor.Anchor.{Anchor}
 use Rattle.path.specs.Shape.{total}
 use Rattle.path.specs.Flat.{listed}
-use Rattle.path.specs.Limit.{anchorIn}
+use Rattle.path.specs.Limit.{anchorIn, anchorGood}
 use Rattle.path.proofs.Limits.{GoodBelow, Least, search-to}
 use Rattle.path.proofs.Places.{anchor-number}
 use Rattle.call.specs.declared.answers.Outline.the-variants.{Refused, Accepted}
@@ -96,7 +96,7 @@ module _ (words : List ℕ) (made : List Float) (toShapes : List ℕ) (to : List
 -- ---- the same of a path whose anchors are known: ps, in front of the list
 module _ (ps : List Anchor) (xs : List Float) (long : length ps * 6 ≤ length xs) where
   listed-in : (k : ℕ) → k < length ps → anchorIn (listed ps xs) k ≡ outlineIn ps k
-  unfolding anchorIn outlineIn listed
+  unfolding anchorIn outlineIn anchorGood listed
   listed-in k l = all-cong _ _ 6 (λ i h. ap inLimit (at-overwrite nan _ _ xs (k * 6 + i) (omega arith) (omega arith) ∙ anchor-number _ k i h))
 
   first-out : (k : ℕ) → Least (anchorIn (listed ps xs)) (length ps) k → Least (outlineIn ps) (length ps) k

@@ -5,14 +5,12 @@ use mathlib.Core.List.{List}
 use lib.Dec.{leb, ltb}
 use lib.ListN.{length}
 use lib.Ieee.{Float}
-use Rattle.views.specs.View.{entry}
-use Rattle.views.specs.Search.{all, firstFalse}
-use Rattle.real.specs.Limit.{inLimit}
+use Rattle.views.specs.Search.{firstFalse}
 use Rattle.refusal.specs.Order.{Test, passes, fails, holds, judge, Verdict, accepted, refused}
 use Rattle.path.specs.declared.anchor.Anchor.{Anchor}
-use Rattle.path.specs.Flat.{numbers, nth}
+use Rattle.path.specs.Flat.{nth}
 use Rattle.path.specs.Shape.{total}
-use Rattle.path.specs.Limit.{anchorIn, placeIn}
+use Rattle.path.specs.Limit.{anchorGood, anchorIn, placeIn}
 use Rattle.call.specs.declared.opening.Opened.{Opened}
 use Rattle.call.specs.declared.opening.Opened.the-variants.{Refused, Anchors}
 
@@ -37,7 +35,7 @@ drawingLimit shapes anchors radii loose = places (placeIn anchors radii) (total 
 
 -- ---- 9: the anchors of a path that was made
 unfoldable pub outlineIn : List Anchor → ℕ → Bool
-outlineIn ps k = all (λ i. inLimit (entry (numbers (nth ps k)) i)) 6
+outlineIn ps k = anchorGood (nth ps k)
 
 unfoldable pub outlineLimit : List Anchor → Test
 outlineLimit ps = places (outlineIn ps) (length ps) passes

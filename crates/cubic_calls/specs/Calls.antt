@@ -21,7 +21,8 @@ use Rattle.cubic_calls.specs.declared.answers.Filled.{Filled}
 use Rattle.cubic_calls.specs.declared.answers.Number.the-variants as number
 use Rattle.cubic_calls.specs.declared.answers.Point.the-variants as point
 use Rattle.cubic_calls.specs.declared.answers.Filled.the-variants as filled
-use Rattle.cubic_calls.specs.Limits.{pointIn, curveIn}
+use Rattle.geom.specs.Point.{pointIn}
+use Rattle.cubic_calls.specs.Limits.{curveIn}
 
 -- ---- the tests: what is given, what is made of it, the room that is lent; a failure of any stands at place 0
 

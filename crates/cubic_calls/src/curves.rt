@@ -6,7 +6,6 @@ use crate::answers::Number;
 use crate::answers::Point;
 use crate::limits::curve_in_limit;
 use crate::limits::numbers_in_limit;
-use crate::limits::point_in_limit;
 use crate::limits::put_curve;
 use geom::P;
 
@@ -14,7 +13,7 @@ use geom::P;
 pub fn len(p: P) -> Number
     ensures { λ r. ⌜ r ≡ lenAnswer p ⌝ }
 {
-    if !point_in_limit(p) {
+    if !p.in_limit() {
         return Number::Refused(refusal::ARGUMENTS, 0);
     }
     let l = p.len();
@@ -32,7 +31,7 @@ pub fn cubic_at(c: [P; 4], t: f64) -> Point
         return Point::Refused(refusal::ARGUMENTS, 0);
     }
     let p = cubic::cubic_at(c, t);
-    if !point_in_limit(p) {
+    if !p.in_limit() {
         return Point::Refused(refusal::RESULT, 0);
     }
     Point::Accepted(p)

@@ -1,4 +1,3 @@
-pub mod Bounded
 pub mod Gaps
 pub mod Inserts
 pub mod Made

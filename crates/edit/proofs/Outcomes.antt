@@ -17,7 +17,7 @@ use Rattle.path.specs.declared.limit.Found.the-variants.{At, Nothing}
 use Rattle.path.specs.Flat.{anchorAt, listed}
 use Rattle.path.specs.Shape.{countOf, closedOf, total, wordAt, start, isSegment, next}
 use Rattle.path.specs.Limit.{anchorIn, firstBad}
-use Rattle.path.proofs.Limits.{GoodBelow, Least, first-is, none-is}
+use Rattle.path.proofs.Limits.{GoodBelow, Least, first-is, none-is, good-cong, least-cong}
 use Rattle.call.specs.declared.answers.Outline.the-variants.{Refused, Accepted}
 use Rattle.call.specs.declared.opening.Opened.the-variants as opened
 use Rattle.call.specs.Tests.{outlineIn, pathLimit, openedPath}
@@ -25,7 +25,6 @@ use Rattle.call.specs.Answers.{outlineAnswer, listLeft, anchorsLeft}
 use Rattle.call.proofs.Openings.{PathOpens, path-refused}
 use Rattle.call.proofs.Handings.{outline-refused, outline-accepted, list-kept, list-written, anchors-kept, anchors-written}
 use Rattle.edit.specs.Split.{halves, shifted, putsWithin, splitPlaces, splitPath, splitShapes, hasSegment, splitVerdict, madeVerdict, splitAnswer, splitShapesLeft, splitAnchorsLeft}
-use Rattle.edit.proofs.Bounded.{good-cong, least-cong}
 use Rattle.edit.proofs.Made.{made-bad, made-short, made-fits, overwrite-all}
 use Rattle.edit.proofs.Splits.{length-split, split-within, stored, split-stored}
 

@@ -16,29 +16,28 @@ use Rattle.path.specs.declared.anchor.Anchor.{Anchor}
 use Rattle.path.specs.declared.limit.Found.the-variants.{At, Nothing}
 use Rattle.path.specs.Anchor.{withoutHandles}
 use Rattle.path.specs.Flat.{anchorAt, numbers, anchorNumbers, putAnchor, nth, listed}
-use Rattle.path.specs.Limit.{anchorIn, firstBad}
+use Rattle.path.specs.Limit.{anchorGood, anchorIn, firstBad}
 use Rattle.path.proofs.Limits.{GoodBelow, Least, first-is, none-is}
+use Rattle.path.proofs.Anchors.{anchor-good}
 use Rattle.path.proofs.Places.{anchor-number, numbers-at, length-put, put-in, put-out}
 use Rattle.call.specs.Tests.{outlineIn}
 use Rattle.cut.specs.Near.{old}
 use Rattle.edit.specs.declared.splitting.Halved.{Halved}
 use Rattle.edit.specs.Gap.{gapped}
-use Rattle.edit.specs.Limit.{within}
 use Rattle.edit.specs.Split.{halves, shifted, splitAnchors, putsWithin, splitPlaces}
 use Rattle.edit.proofs.Gaps.{length-gap, gap-past, gap-below, gap-above}
-use Rattle.edit.proofs.Bounded.{within-at, within-nth}
 
 -- ---- the first place that breaks the limit
 module _ (h : Halved) (a b : ℕ) (p : a ≡ b → ⊥) (q : a + 1 ≡ b → ⊥) where
-  at-left : putsWithin h a b a ≡ within (h .left)
+  at-left : putsWithin h a b a ≡ anchorGood (h .left)
   unfolding putsWithin
   at-left = rw (eq-eqb a a refl)
 
-  at-middle : putsWithin h a b (a + 1) ≡ within (h .middle)
+  at-middle : putsWithin h a b (a + 1) ≡ anchorGood (h .middle)
   unfolding putsWithin
   at-middle = rw (ne-eqb (a + 1) a (λ e. omega arith), eq-eqb (a + 1) (a + 1) refl)
 
-  at-right : putsWithin h a b b ≡ within (h .right)
+  at-right : putsWithin h a b b ≡ anchorGood (h .right)
   unfolding putsWithin
   at-right = rw (ne-eqb b a (λ e. p (sym e)), ne-eqb b (a + 1) (λ e. q (sym e)), eq-eqb b b refl)
 
@@ -46,7 +45,7 @@ module _ (h : Halved) (a b : ℕ) (p : a ≡ b → ⊥) (q : a + 1 ≡ b → ⊥
   unfolding putsWithin
   elsewhere k x y z = rw (ne-eqb k a x, ne-eqb k (a + 1) y, ne-eqb k b z)
 
-  good-below : (m : ℕ) → (a < m → within (h .left) ≡ true) → (a + 1 < m → within (h .middle) ≡ true) → (b < m → within (h .right) ≡ true) → GoodBelow (putsWithin h a b) m
+  good-below : (m : ℕ) → (a < m → anchorGood (h .left) ≡ true) → (a + 1 < m → anchorGood (h .middle) ≡ true) → (b < m → anchorGood (h .right) ≡ true) → GoodBelow (putsWithin h a b) m
   good-below m l c r k i =
       ⊎-elim
       (λ e. rw e (at-left ∙ l (omega arith)))
@@ -60,20 +59,20 @@ module _ (h : Halved) (a b : ℕ) (p : a ≡ b → ⊥) (q : a + 1 ≡ b → ⊥
   least n k l e g = sym (first-is (putsWithin h a b) n k .1 (record { place = l; bad = e; below = g }))
 
   module _ (n : ℕ) (i : a + 1 < n) (j : b < n) where
-    pub right-first : b < a → within (h .right) ≡ false → At b ≡ firstBad (putsWithin h a b) n
+    pub right-first : b < a → anchorGood (h .right) ≡ false → At b ≡ firstBad (putsWithin h a b) n
     right-first l e = least n b j (at-right ∙ e) (good-below b (λ m. absurd (omega arith)) (λ m. absurd (omega arith)) (λ m. absurd (omega arith)))
 
-    pub left-first : within (h .left) ≡ false → (b < a → within (h .right) ≡ true) → At a ≡ firstBad (putsWithin h a b) n
+    pub left-first : anchorGood (h .left) ≡ false → (b < a → anchorGood (h .right) ≡ true) → At a ≡ firstBad (putsWithin h a b) n
     left-first e r = least n a (omega arith) (at-left ∙ e) (good-below a (λ m. absurd (omega arith)) (λ m. absurd (omega arith)) r)
 
-    pub middle-first : within (h .left) ≡ true → within (h .middle) ≡ false → (b < a → within (h .right) ≡ true) → At (a + 1) ≡ firstBad (putsWithin h a b) n
+    pub middle-first : anchorGood (h .left) ≡ true → anchorGood (h .middle) ≡ false → (b < a → anchorGood (h .right) ≡ true) → At (a + 1) ≡ firstBad (putsWithin h a b) n
     middle-first l e r =
         least n (a + 1) i (at-middle ∙ e) (good-below (a + 1) (λ m. l) (λ m. absurd (omega arith)) (λ m. r (⊎-elim (λ (g : a ≤ b). absurd (p (omega arith))) (λ (g : b < a). g) (order a b))))
 
-    pub right-last : within (h .left) ≡ true → within (h .middle) ≡ true → within (h .right) ≡ false → At b ≡ firstBad (putsWithin h a b) n
+    pub right-last : anchorGood (h .left) ≡ true → anchorGood (h .middle) ≡ true → anchorGood (h .right) ≡ false → At b ≡ firstBad (putsWithin h a b) n
     right-last l c e = least n b j (at-right ∙ e) (good-below b (λ m. l) (λ m. c) (λ m. absurd (omega arith)))
 
-    pub none-first : within (h .left) ≡ true → within (h .middle) ≡ true → within (h .right) ≡ true → Nothing ≡ firstBad (putsWithin h a b) n
+    pub none-first : anchorGood (h .left) ≡ true → anchorGood (h .middle) ≡ true → anchorGood (h .right) ≡ true → Nothing ≡ firstBad (putsWithin h a b) n
     none-first l c r = sym (none-is (putsWithin h a b) n .1 (good-below n (λ m. l) (λ m. c) (λ m. r)))
 
 -- ---- indices
@@ -113,19 +112,19 @@ module _ (xs : List Float) (n a b : ℕ) (t : Float) where
 
   -- what is in the limit
   pub split-within : a < n → GoodBelow (anchorIn xs) n → (k : ℕ) → k < n + 1 → outlineIn (splitPlaces xs n a b t) k ≡ putsWithin now a (shifted a b) k
-  unfolding splitAnchors putsWithin old
-  split-within h g k l = within-nth (splitPlaces xs n a b t) k ∙ ap within (at-place k l) ∙ go (eqb k a) (eqb k (a + 1)) (eqb k (shifted a b)) refl
+  unfolding outlineIn splitAnchors putsWithin old
+  split-within h g k l = ap anchorGood (at-place k l) ∙ go (eqb k a) (eqb k (a + 1)) (eqb k (shifted a b)) refl
     where
-      other : (k ≡ a + 1 → ⊥) → within (anchorAt xs (old a k)) ≡ true
+      other : (k ≡ a + 1 → ⊥) → anchorGood (anchorAt xs (old a k)) ≡ true
       other ne =
           ⊎-elim
-          (λ m. rw (le-leb k a m) (within-at xs k ∙ g k (omega arith)))
-          (λ m. rw (lt-leb k a m) (within-at xs (k - 1) ∙ g (k - 1) (omega arith)))
+          (λ m. rw (le-leb k a m) (sym (anchor-good xs k) ∙ g k (omega arith)))
+          (λ m. rw (lt-leb k a m) (sym (anchor-good xs (k - 1)) ∙ g (k - 1) (omega arith)))
           (order k a)
 
       go : (x y z : Bool) → eqb k (a + 1) ≡ y
-          → within (cond x (now .left) (cond y (now .middle) (cond z (now .right) (anchorAt xs (old a k)))))
-          ≡ cond x (within (now .left)) (cond y (within (now .middle)) (cond z (within (now .right)) true))
+          → anchorGood (cond x (now .left) (cond y (now .middle) (cond z (now .right) (anchorAt xs (old a k)))))
+          ≡ cond x (anchorGood (now .left)) (cond y (anchorGood (now .middle)) (cond z (anchorGood (now .right)) true))
       go true y z e = refl
       go false true z e = refl
       go false false true e = refl

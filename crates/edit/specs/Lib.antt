@@ -1,4 +1,3 @@
 pub mod Gap
-pub mod Limit
 pub mod Split
 pub mod Reversed

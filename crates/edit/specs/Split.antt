@@ -13,13 +13,13 @@ use Rattle.refusal.specs.Order.{holds, judge, Verdict, accepted, verdict, tests
 use Rattle.path.specs.declared.anchor.Anchor.{Anchor}
 use Rattle.path.specs.Anchor.{segment}
 use Rattle.path.specs.Flat.{anchorAt}
+use Rattle.path.specs.Limit.{anchorGood}
 use Rattle.path.specs.Shape.{countOf, closedOf, total, wordAt, start, isSegment, next}
 use Rattle.cut.specs.Near.{old}
 use Rattle.call.specs.declared.answers.Outline.{Outline}
 use Rattle.call.specs.Tests.{pathFits, pathLimit, outlineLimit, roomFor}
 use Rattle.call.specs.Answers.{outlineAnswer, listLeft, anchorsLeft}
 use Rattle.edit.specs.declared.splitting.Halved.{Halved}
-use Rattle.edit.specs.Limit.{within}
 
 -- ---- the effect
 -- the ends of a segment, each with its new handle on the split side, and the anchor between them
@@ -44,7 +44,7 @@ splitAnchors f a b t k =
 
 -- whether the anchor that is put to place k is in the limit, where those of a segment go to a, a + 1 and b, and no other is put
 unfoldable pub putsWithin : Halved → ℕ → ℕ → ℕ → Bool
-putsWithin h a b k = cond (eqb k a) (within (h .left)) (cond (eqb k (a + 1)) (within (h .middle)) (cond (eqb k b) (within (h .right)) true))
+putsWithin h a b k = cond (eqb k a) (anchorGood (h .left)) (cond (eqb k (a + 1)) (anchorGood (h .middle)) (cond (eqb k b) (anchorGood (h .right)) true))
 
 -- ---- on a path of n anchors, whose segment leaves place a for place b
 unfoldable pub splitPlaces : List Float → ℕ → ℕ → ℕ → Float → List Anchor

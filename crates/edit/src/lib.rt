@@ -1,11 +1,9 @@
 // Edits of a path, after 000: an anchor put into a segment, a subpath turned round.
 mod gap;
-mod limits;
 mod reversal;
 mod splitting;
 
 pub use gap::shift_up;
-pub use limits::within;
 pub use reversal::reversed;
 pub use reversal::turned;
 pub use splitting::Halved;
@@ -15,4 +13,3 @@ pub use splitting::halves;
 pub use splitting::put_halves;
 pub use splitting::shifted;
 pub use splitting::split;
-pub use splitting::start_of;

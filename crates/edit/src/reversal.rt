@@ -7,7 +7,6 @@ ghost use Rattle.path.specs.Flat.{anchorAt, putAnchor, listed};
 ghost use Rattle.call.specs.declared.opening.Opened.the-variants.{Anchors};
 ghost use Rattle.call.specs.Tests.{openedDrawing};
 ghost use Rattle.edit.specs.Reversed.{turned, reversedAnchors, reversedAnswer, reversedLeft};
-use crate::splitting::start_of;
 use call::Opened;
 use call::Outline;
 use path::Anchor;
@@ -64,7 +63,7 @@ fn reversed_opened(
         return Outline::Refused(refusal::REFERENCE, 0);
     }
     let count = path::count_of(shapes[s]);
-    turn_round(anchors, n, start_of(shapes, s), count);
+    turn_round(anchors, n, path::start_of(shapes, s), count);
     Outline::Accepted(shapes.len(), n)
 }
 

@@ -12,7 +12,6 @@ ghost use Rattle.call.specs.Answers.{outlineAnswer, listLeft, anchorsLeft};
 ghost use Rattle.edit.specs.Gap.{gapped};
 ghost use Rattle.edit.specs.Split.{shifted, halves, putsWithin, splitPlaces, splitShapes, madeVerdict, splitAnswer, splitShapesLeft, splitAnchorsLeft};
 use crate::gap::shift_up;
-use crate::limits::within;
 use call::Opened;
 use call::Outline;
 use path::Anchor;
@@ -71,16 +70,16 @@ pub fn first_out(h: Halved, a: usize, b: usize) -> Found
     ensures { λ r. ⌜ ((n : ℕ) → a + 1 < n → b < n → r ≡ firstBad (putsWithin h a b) n) ⌝ }
 {
     let right = h.right;
-    let last = within(right);
+    let last = right.in_limit();
     if b < a && !last {
         return Found::At(b);
     }
     let left = h.left;
-    if !within(left) {
+    if !left.in_limit() {
         return Found::At(a);
     }
     let middle = h.middle;
-    if !within(middle) {
+    if !middle.in_limit() {
         return Found::At(a + 1);
     }
     if !last {
@@ -139,14 +138,6 @@ fn split_between(
     Outline::Accepted(shapes.len(), n + 1)
 }
 
-// The place of the first anchor of subpath s.
-pub fn start_of(shapes: &[u32], s: usize) -> usize
-    requires { ⌜ (s ≤ length (now shapes)) × (length (now shapes) ≤ 32) ⌝ }
-    ensures { λ r. ⌜ r ≡ start (now (shapes .entry)) s ⌝ }
-{
-    path::total_of(&shapes[..s])
-}
-
 // Of a path of n anchors that passed 7 and 5.
 fn split_opened(
     shapes: &mut [u32],
@@ -174,7 +165,7 @@ fn split_opened(
     if n >= 512 {
         return Outline::Refused(refusal::CAPACITY, 0);
     }
-    let first = start_of(shapes, s);
+    let first = path::start_of(shapes, s);
     let b = first + path::next(count, a);
     split_between(shapes, anchors, n, s, first + a, b, t)
 }

@@ -2,6 +2,7 @@
 use mathlib.Core.Bool.{Bool, _&&_}
 use lib.Ieee.{Float, eq}
 use Rattle.root.specs.Root.{rootOf}
+use Rattle.real.specs.Limit.{inLimit}
 use Rattle.real.specs.Operators.{_⊕_, _⊖_, _⊗_, 0f}
 use Rattle.geom.specs.declared.point.P.{P}
 
@@ -21,6 +22,10 @@ minus a b = point (a .x ⊖ b .x) (a .y ⊖ b .y)
 
 unfoldable pub times : P → Float → P
 times a s = point (a .x ⊗ s) (a .y ⊗ s)
+
+-- both coordinates are within the limit
+unfoldable pub pointIn : P → Bool
+pointIn p = inLimit (p .x) && inLimit (p .y)
 
 -- `==`: of numbers, so -0 is 0
 unfoldable pub same : P → P → Bool

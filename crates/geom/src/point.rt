@@ -1,6 +1,6 @@
 // `P`: a point, or a vector, of the plane.
 ghost use mathlib.Core.Path.{_≡_};
-ghost use Rattle.geom.specs.Point.{point, plus, minus, times, same, dot, cross, len, dist, lerp};
+ghost use Rattle.geom.specs.Point.{point, plus, minus, times, pointIn, same, dot, cross, len, dist, lerp};
 
 pub struct P {
     pub x: f64,
@@ -12,6 +12,13 @@ impl P {
         ensures { λ r. ⌜ r ≡ point x y ⌝ }
     {
         P { x: x, y: y }
+    }
+
+    // Whether both coordinates are within the limit.
+    pub fn in_limit(self) -> bool
+        ensures { λ r. ⌜ r ≡ pointIn self ⌝ }
+    {
+        real::in_limit(self.x) && real::in_limit(self.y)
     }
 
     // Rust's `==`: by number, so -0 is 0 and a NaN is nothing's equal.

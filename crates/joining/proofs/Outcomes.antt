@@ -16,13 +16,12 @@ use Rattle.path.specs.declared.anchor.Anchor.{Anchor}
 use Rattle.path.specs.declared.limit.Found.the-variants.{At}
 use Rattle.path.specs.Shape.{countOf, wordOf}
 use Rattle.path.specs.Flat.{anchorAt, listed}
-use Rattle.path.specs.Limit.{firstBad}
+use Rattle.path.specs.Limit.{anchorGood, firstBad}
 use Rattle.path.proofs.Limits.{GoodBelow, first-is}
 use Rattle.call.specs.declared.answers.Outline.the-variants.{Refused, Accepted}
 use Rattle.call.specs.Tests.{places, outlineLimit, roomFor}
 use Rattle.call.proofs.Openings.{places-fail, places-pass}
 use Rattle.call.proofs.Handings.{room, few-words, few-numbers, outline-refused, outline-accepted, list-kept, list-written, anchors-kept, anchors-written}
-use Rattle.edit.specs.Limit.{within}
 use Rattle.joining.specs.Joined.{targetAt, targetRest, jointOf, joinedAnchors}
 use Rattle.joining.specs.Call.{listFits, eitherIn, joinedPath, joinVerdict, joinAnswer, joinShapesLeft, joinAnchorsLeft}
 use Rattle.joining.proofs.Eithers.{fits, drawn-good, target-good}
@@ -93,17 +92,17 @@ module _ (drawn : List Float) (count : ℕ) (target : List Float) (word : ℕ) (
           joint = jointOf drawn count (targetAt target (countOf word) atStart 0)
 
           -- ---- 9
-          joint-fails : within joint ≡ false → outlineLimit (joinedPath drawn count target word atStart) ≡ fails (count - 1)
+          joint-fails : anchorGood joint ≡ false → outlineLimit (joinedPath drawn count target word atStart) ≡ fails (count - 1)
           unfolding outlineLimit joinedPath
           joint-fails e =
               places-fail _ _ passes (count - 1)
               (joint-out drawn count target (countOf word) atStart (drawn-good drawn count target (countOf word) good) (target-good drawn count target (countOf word) good) e)
 
-          pub joint-refused : within joint ≡ false → joinVerdict drawn count target word atStart toShapes to ≡ refused 9 (count - 1)
+          pub joint-refused : anchorGood joint ≡ false → joinVerdict drawn count target word atStart toShapes to ≡ refused 9 (count - 1)
           unfolding joinVerdict
           joint-refused e = by-result _ _ _ _ _ _ lists-pass arguments-pass some-pass capacity-pass (count - 1) (joint-fails e)
 
-          module _ (inside : within joint ≡ true) where
+          module _ (inside : anchorGood joint ≡ true) where
             result-pass : outlineLimit (joinedPath drawn count target word atStart) ≡ passes
             unfolding outlineLimit joinedPath
             result-pass =

@@ -39,7 +39,7 @@ fn join_opened(
     }
     // The other anchors are those given, which passed 5.
     let joint = joint_of(drawn, count, target_at(target, n, at_start, 0));
-    if !edit::within(joint) {
+    if !joint.in_limit() {
         return Outline::Refused(refusal::RESULT, before);
     }
     if to_shapes.len() < 1 {

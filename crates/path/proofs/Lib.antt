@@ -3,3 +3,4 @@ pub mod Places
 pub mod Puts
 pub mod Limits
 pub mod Distances
+pub mod Anchors

@@ -35,6 +35,18 @@ apart k e = let z : _≡_ {A = ℕ} 0 1 = cc in omega arith
 same-place : (i k : ℕ) → At i ≡ At k → i ≡ k
 same-place i k e = cc
 
+-- tests that agree below n
+module _ (good fine : ℕ → Bool) (n : ℕ) (e : (k : ℕ) → k < n → good k ≡ fine k) where
+  pub good-cong : GoodBelow good n → GoodBelow fine n
+  good-cong g k l = sym (e k l) ∙ g k l
+
+  pub least-cong : (k : ℕ) → Least good n k → Least fine n k
+  least-cong k l = record {
+    place = l .place;
+    bad = sym (e k (l .place)) ∙ l .bad;
+    below = λ j h. let p = l .place in sym (e j (omega arith)) ∙ l .below j h;
+  }
+
 module _ (good : ℕ → Bool) where
   least-at : (n k : ℕ) → Least good n k → firstBad good n ≡ At k
   unfolding firstBad

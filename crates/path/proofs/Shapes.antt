@@ -7,12 +7,13 @@ use Prim.Native.Nat.{ℕ, zero, suc, _+_, _-_, _%_, _≤_, _<_}
 use native.Mathlib.Nat.{le-of-suc-le-suc, not-suc-le-zero, mod-eq-of-lt, mod-self, add-mod-right}
 use native.Mathlib.Numerals.{add-one}
 use native.Mathlib.Omega.{arith}
-use lib.Dec.{leb}
+use lib.Dec.{leb, ltb}
 use lib.ListN.{length}
 use lib.Seq.{take-all}
-use borrow.Author.Tests.{leb-true, lt-ltb, le-ltb}
+use borrow.Author.Tests.{leb-true, ltb-true, lt-ltb, le-ltb}
 use Rattle.views.proofs.Laws.{order}
-use Rattle.path.specs.Shape.{countOf, total, wordAt, start, prev, next, sizedOf}
+use Rattle.views.proofs.Searches.{both}
+use Rattle.path.specs.Shape.{countOf, total, wordAt, start, hasAnchor, prev, next, sizedOf}
 use Rattle.path.specs.declared.shape.Sized.the-variants.{Anchors, Wrong}
 
 -- ---- places
@@ -30,6 +31,11 @@ pub total-in : (shapes : List ℕ) (s : ℕ) → s < length shapes → start sha
 total-in [] s l = absurd (not-suc-le-zero l)
 total-in (w ∷ ws) zero l = omega arith
 total-in (w ∷ ws) (suc s) l = let e = total-in ws s (le-of-suc-le-suc l) in omega arith
+
+-- an anchor that is there
+pub has-says : (shapes : List ℕ) (s i : ℕ) → hasAnchor shapes s i ≡ true → (s < length shapes) × (i < countOf (wordAt shapes s))
+unfolding hasAnchor
+has-says shapes s i h = let e = both (ltb s (length shapes)) (ltb i (countOf (wordAt shapes s))) h in (ltb-true _ _ (e .0), ltb-true _ _ (e .1))
 
 -- past the last subpath it is the whole path
 pub total-end : (shapes : List ℕ) (s : ℕ) → length shapes ≤ s → start shapes s ≡ total shapes

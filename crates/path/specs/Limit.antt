@@ -7,14 +7,20 @@ use lib.Ieee.{Float, le, neg}
 use Rattle.views.specs.View.{entry}
 use Rattle.views.specs.Search.{all, firstFalse}
 use Rattle.real.specs.Limit.{inLimit}
+use Rattle.path.specs.declared.anchor.Anchor.{Anchor}
 use Rattle.path.specs.declared.limit.Found.{Found}
 use Rattle.path.specs.declared.limit.Found.the-variants.{At, Nothing}
+use Rattle.path.specs.Flat.{numbers}
 
 -- x is a number of magnitude at most `limit`
 unfoldable pub withinLimit : Float → Float → Bool
 withinLimit limit x = le (neg limit) x && le x limit
 
--- the six numbers of the anchor at place k
+-- the six numbers of an anchor
+unfoldable pub anchorGood : Anchor → Bool
+anchorGood a = all (λ i. inLimit (entry (numbers a) i)) 6
+
+-- those of the anchor at place k of a list
 unfoldable pub anchorIn : List Float → ℕ → Bool
 anchorIn anchors k = all (λ i. inLimit (entry anchors (k * 6 + i))) 6
 

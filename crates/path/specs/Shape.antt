@@ -26,6 +26,10 @@ wordAt shapes s = getD shapes s 0
 abbrev pub start : List ℕ → ℕ → ℕ
 start shapes s = total (take s shapes)
 
+-- subpath s has an anchor i
+unfoldable pub hasAnchor : List ℕ → ℕ → ℕ → Bool
+hasAnchor shapes s i = ltb s (length shapes) && ltb i (countOf (wordAt shapes s))
+
 -- the word of a subpath of n anchors
 unfoldable pub wordOf : ℕ → Bool → ℕ
 wordOf n closed = cond closed (n + 2147483648) n

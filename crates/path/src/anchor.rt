@@ -1,6 +1,7 @@
 // `Anchor`: a point of a path and its two handles, each equal to the point where there is none on that side.
 ghost use mathlib.Core.Path.{_≡_};
 ghost use Rattle.path.specs.Anchor.{withoutHandles, hasHandles, isSmooth, segment};
+ghost use Rattle.path.specs.Limit.{anchorGood};
 use crate::distance::short;
 use geom::P;
 use geom::cross;
@@ -20,6 +21,16 @@ impl Anchor {
             h_in: p,
             h_out: p,
         }
+    }
+
+    // Whether each of its six numbers is within the limit.
+    pub fn in_limit(self) -> bool
+        ensures { λ r. ⌜ r ≡ anchorGood self ⌝ }
+    {
+        if !self.p.in_limit() {
+            return false;
+        }
+        self.h_in.in_limit() && self.h_out.in_limit()
     }
 
     pub fn has_handles(self) -> bool

@@ -2,7 +2,7 @@
 ghost use mathlib.Core.Path.{_≡_};
 ghost use Prim.Native.Nat.{_≤_, _<_};
 ghost use lib.ListN.{length};
-ghost use Rattle.path.specs.Shape.{countOf, closedOf, wordOf, total, isSegment, prev, next, sizedOf};
+ghost use Rattle.path.specs.Shape.{countOf, closedOf, wordOf, total, start, hasAnchor, isSegment, prev, next, sizedOf};
 
 pub fn count_of(word: u32) -> usize
     ensures { λ r. ⌜ r ≡ countOf word ⌝ }
@@ -25,6 +25,16 @@ pub fn word(n: usize, closed: bool) -> u32
         return (n as u32) + 2147483648;
     }
     n as u32
+}
+
+// Whether subpath s has an anchor i.
+pub fn has_anchor(shapes: &[u32], s: usize, i: usize) -> bool
+    ensures { λ r. ⌜ r ≡ hasAnchor (now (shapes .entry)) s i ⌝ }
+{
+    if shapes.len() <= s {
+        return false;
+    }
+    i < count_of(shapes[s])
 }
 
 // Whether a subpath of n anchors has a segment that starts at anchor a.
@@ -72,6 +82,14 @@ pub fn total_of(shapes: &[u32]) -> usize
         sum += count_of(shapes[s]);
     }
     sum
+}
+
+// The place of the first anchor of subpath s.
+pub fn start_of(shapes: &[u32], s: usize) -> usize
+    requires { ⌜ (s ≤ length (now shapes)) × (length (now shapes) ≤ 32) ⌝ }
+    ensures { λ r. ⌜ r ≡ start (now (shapes .entry)) s ⌝ }
+{
+    total_of(&shapes[..s])
 }
 
 // The anchor count of a path of at most 32 subpaths and `most` anchors. No sum wraps, whatever the words are.

@@ -18,7 +18,7 @@ use Rattle.refusal.proofs.Verdicts.{holds-true}
 use Rattle.path.specs.declared.anchor.Anchor.{Anchor}
 use Rattle.path.specs.Shape.{total}
 use Rattle.path.specs.Flat.{anchorAt, numbers, nth, listed}
-use Rattle.path.specs.Limit.{anchorIn}
+use Rattle.path.specs.Limit.{anchorIn, anchorGood}
 use Rattle.path.proofs.Shapes.{Fits}
 use Rattle.path.proofs.Limits.{GoodBelow, Least, search-to}
 use Rattle.path.proofs.Places.{anchor-number}
@@ -159,7 +159,7 @@ module _ (shapes : List ℕ) (anchors radii : List Float) (kind : ℕ) (d : Draw
 
     -- the path passes `to_svg_d`'s tests
     listed-good : GoodBelow (anchorIn (listed ps to)) (length ps)
-    unfolding anchorIn outlineIn listed
+    unfolding anchorIn outlineIn anchorGood listed
     listed-good k l = all-cong _ _ 6 (λ i h. ap inLimit (at-overwrite nan _ _ to (k * 6 + i) (omega arith) (omega arith) ∙ anchor-number (nth ps) k i h)) ∙ outline-good k l
 
     listed-long : length (listed ps to) ≡ length to

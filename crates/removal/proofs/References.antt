@@ -15,17 +15,8 @@ use Rattle.views.specs.Search.{all}
 use Rattle.views.proofs.Laws.{same}
 use Rattle.views.proofs.Searches.{all-false}
 use Rattle.path.specs.Shape.{countOf, wordAt, start}
-use Rattle.removal.specs.Deleted.{hasAnchor, namedSubpath, namedAnchor, names, unnamed}
+use Rattle.removal.specs.Deleted.{namedSubpath, namedAnchor, names, unnamed}
 use Rattle.removal.specs.Marks.{keptIn, Marked}
-
-pub has-says : (shapes : List ℕ) (s k : ℕ) → hasAnchor shapes s k ≡ true → (s < length shapes) × (k < countOf (wordAt shapes s))
-unfolding hasAnchor
-has-says shapes s k = go (ltb s (length shapes)) (ltb k (countOf (wordAt shapes s))) refl refl
-  where
-    go : (p q : Bool) → ltb s (length shapes) ≡ p → ltb k (countOf (wordAt shapes s)) ≡ q → (p && q) ≡ true → (s < length shapes) × (k < countOf (wordAt shapes s))
-    go true true e f h = (ltb-true _ _ e, ltb-true _ _ f)
-    go true false e f h = absurd (true≢false (sym h))
-    go false q e f h = absurd (true≢false (sym h))
 
 -- a place is one anchor's alone
 pub one-anchor : (shapes : List ℕ) (s t a b : ℕ) → s < length shapes → t < length shapes → a < countOf (wordAt shapes s) → b < countOf (wordAt shapes t)

@@ -6,8 +6,8 @@ use Prim.Native.Nat.{ℕ}
 use lib.Ieee.{Float}
 use Rattle.views.specs.Search.{all}
 use Rattle.path.specs.Flat.{anchorAt}
-use Rattle.path.specs.Shape.{wordOf}
-use Rattle.removal.specs.Deleted.{wholePairs, pointsIn, hasAnchor, names, unnamed, keeps, retained, suffices, subpathLeft, subpathStays, wordLeft, wordsUpTo, anchorsUpTo, wordsKept, anchorsKept, deletedWords, deletedAnchors}
+use Rattle.path.specs.Shape.{wordOf, hasAnchor}
+use Rattle.removal.specs.Deleted.{wholePairs, pointsIn, names, unnamed, keeps, retained, suffices, subpathLeft, subpathStays, wordLeft, wordsUpTo, anchorsUpTo, wordsKept, anchorsKept, deletedWords, deletedAnchors}
 
 -- closed subpaths of three and four anchors, an open one of two
 abbrev triangle : ℕ

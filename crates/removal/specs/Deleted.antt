@@ -9,7 +9,7 @@ use Rattle.views.specs.Search.{all}
 use Rattle.refusal.specs.Order.{passes, holds, Verdict, verdict, tests}
 use Rattle.path.specs.declared.anchor.Anchor.{Anchor}
 use Rattle.path.specs.Flat.{anchorAt}
-use Rattle.path.specs.Shape.{countOf, closedOf, wordAt, wordOf, start}
+use Rattle.path.specs.Shape.{countOf, closedOf, wordAt, wordOf, start, hasAnchor}
 use Rattle.call.specs.declared.answers.Outline.{Outline}
 use Rattle.call.specs.Tests.{pathFits, pathLimit}
 use Rattle.call.specs.Answers.{outlineAnswer, listLeft, anchorsLeft}
@@ -28,10 +28,6 @@ namedSubpath which i = getD which (2 * i) 0
 
 abbrev pub namedAnchor : List ℕ → ℕ → ℕ
 namedAnchor which i = getD which (2 * i + 1) 0
-
--- subpath s has an anchor k
-unfoldable pub hasAnchor : List ℕ → ℕ → ℕ → Bool
-hasAnchor shapes s k = ltb s (length shapes) && ltb k (countOf (wordAt shapes s))
 
 -- the one that pair i names is there
 unfoldable pub pointsIn : List ℕ → List ℕ → ℕ → Bool

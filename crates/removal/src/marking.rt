@@ -6,18 +6,8 @@ ghost use lib.ListN.{length, getD};
 ghost use Rattle.views.specs.View.{overwrite};
 ghost use Rattle.views.specs.Search.{all};
 ghost use Rattle.path.specs.Shape.{total, start};
-ghost use Rattle.removal.specs.Deleted.{pairs, hasAnchor, pointsIn};
+ghost use Rattle.removal.specs.Deleted.{pairs, pointsIn};
 ghost use Rattle.removal.specs.Marks.{Marked};
-
-// Whether subpath s has an anchor k.
-fn has_anchor(shapes: &[u32], s: usize, k: usize) -> bool
-    ensures { λ r. ⌜ r ≡ hasAnchor (now (shapes .entry)) s k ⌝ }
-{
-    if shapes.len() <= s {
-        return false;
-    }
-    k < path::count_of(shapes[s])
-}
 
 // The place where each subpath starts.
 fn fill_starts(shapes: &[u32], starts: &mut [usize])
@@ -42,7 +32,7 @@ pub fn mark_gone(shapes: &[u32], which: &[u32], gone: &mut [bool]) -> bool
     for i in 0..which.len() / 2 {
         let s = which[2 * i] as usize;
         let k = which[2 * i + 1] as usize;
-        if !has_anchor(shapes, s, k) {
+        if !path::has_anchor(shapes, s, k) {
             return false;
         }
         gone[starts[s] + k] = true;

@@ -8,6 +8,7 @@ use native.Mathlib.Omega.{arith}
 use lib.Dec.{leb, ltb}
 use lib.ListN.{length}
 use borrow.Author.Tests.{leb-true, ltb-true}
+use Rattle.path.proofs.Shapes.{has-says}
 use Rattle.views.specs.Search.{firstFalse, count}
 use Rattle.refusal.specs.Order.{Test, passes, fails, holds, judge, Verdict, accepted, refused}
 use Rattle.refusal.proofs.Verdicts.{in-order}
@@ -24,7 +25,7 @@ use Rattle.session.specs.Calls.{listsFit, writtenGood, recutGood, editLimit, ed
 use Rattle.session.specs.Model.{lengthsOf, longFor, smallPath}
 use Rattle.session.proofs.Judging.{and-left, and-right, holds-says, accepted-says}
 use Rattle.session.proofs.Lents.{fits-same}
-use Rattle.session.proofs.Effects.{has-sub, segment-sub}
+use Rattle.session.proofs.Effects.{segment-sub}
 use Rattle.session.proofs.Step.{words-kept}
 use Rattle.replay.specs.Encoding.{told, stands, answerWords, Small, subpathOf}
 
@@ -136,8 +137,8 @@ module _ (l : Lent) (kind : ℕ) (e : Edit) where
 -- ---- an accepted call's subpath
 known-sub : (l : Lent) (kind : ℕ) (c : Call) → editOf (drawn l kind) c .known ≡ true → subpathOf c < length (l .shapes)
 unfolding editOf subpathOf drawn
-known-sub l kind (move s i new) h = has-sub (l .shapes) s i h
-known-sub l kind (setRadius s i r) h = has-sub (l .shapes) s i h
+known-sub l kind (move s i new) h = has-says (l .shapes) s i h .0
+known-sub l kind (setRadius s i r) h = has-says (l .shapes) s i h .0
 known-sub l kind (split s a t) h = segment-sub (l .shapes) s a h
 
 words-same : (l : Lent) (kind : ℕ) (c : Call) → length (editOf (drawn l kind) c .made .shapes) ≡ length (l .shapes)

@@ -11,8 +11,8 @@ use Rattle.real.specs.Limit.{inLimit}
 use Rattle.refusal.specs.Order.{holds, judge, firstFailing, verdict, tests}
 use Rattle.geom.specs.Point.{point, plus, minus, times}
 use Rattle.path.specs.Flat.{numbers, anchorNumbers}
-use Rattle.path.specs.Limit.{anchorIn, placeIn}
-use Rattle.path.specs.Shape.{subOf, prev, next}
+use Rattle.path.specs.Limit.{anchorGood, anchorIn, placeIn}
+use Rattle.path.specs.Shape.{subOf, prev, next, hasAnchor}
 use Rattle.call.specs.Tests.{places, pathFits, drawingFits, drawingLimit}
 use Rattle.cut.specs.View.{arrives, leaves}
 use Rattle.cut.specs.Subpath.{viewOf}
@@ -24,7 +24,7 @@ use Rattle.cut_calls.specs.PlainCut.{subAt, viewAt}
 use Rattle.session.specs.Drawing.{Lent, drawn, cornerKind, viewIn}
 use Rattle.cache.specs.Cache.{placeOfPath, cachedFlags, cachedIn, cachedNumbers}
 use Rattle.cache.specs.Tests.{cacheFits}
-use Rattle.session.specs.Edits.{move, setRadius, split, anchorGood, hasAnchor, moved, resized, editOf, placesOf}
+use Rattle.session.specs.Edits.{move, setRadius, split, moved, resized, editOf, placesOf}
 use Rattle.session.specs.Calls.{listsFit, writtenGood, recutGood, editLimit, roomIn, editVerdict, editAnswer, editedLists, listsAfter, callVerdict, callAnswer, callLists, builtLists}
 use Rattle.cache.specs.Calls.{cutPlaces, buildVerdict, buildNumbers, buildFlags}
 use Rattle.call.specs.Answers.{listLeft}

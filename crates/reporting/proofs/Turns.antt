@@ -11,7 +11,7 @@ use borrow.Author.Tests.{leb-true, ne-eqb}
 use Rattle.views.specs.Search.{count}
 use Rattle.refusal.specs.Order.{Rank, lists, arguments, reference, capacity, result, output, number, Test, passes, fails, judge, firstFailing, Verdict, accepted, refused, verdict}
 use Rattle.path.specs.Shape.{countOf, total, wordAt, start}
-use Rattle.path.proofs.Shapes.{total-in}
+use Rattle.path.proofs.Shapes.{total-in, has-says}
 use Rattle.cut.specs.declared.subpath.Sub.{Sub}
 use Rattle.cut.specs.declared.subpath.Window.{Window}
 use Rattle.session.specs.declared.answers.Edited.the-variants.{Refused, Accepted}
@@ -21,7 +21,7 @@ use Rattle.session.specs.Calls.{listsFit, editVerdict, editAnswer, editedLists,
 use Rattle.session.specs.Model.{lengthsOf, longFor, smallPath}
 use Rattle.session.proofs.Judging.{and-left, and-right, holds-says, accepted-says}
 use Rattle.session.proofs.Lents.{fits-same}
-use Rattle.session.proofs.Effects.{has-sub, has-anchor, segment-sub, segment-there, sub-small}
+use Rattle.session.proofs.Effects.{segment-sub, segment-there, sub-small}
 use Rattle.session.proofs.Splits.{segment-in, split-count, split-start, split-total}
 use Rattle.cached.specs.Near.{reachedIn}
 use Rattle.replay.specs.Encoding.{subpathOf}
@@ -63,8 +63,8 @@ record Stands (d : Drawing) (c : Call) : Type 0 where
 
 stands : (d : Drawing) (c : Call) → total (d .shapes) ≤ 512 → editOf d c .known ≡ true → Stands d c
 unfolding editOf moved resized splitAt subpathOf whichOf indexOf windowOf
-stands d (move s i new) few h = record { begins = refl; inside = total-in (d .shapes) s (has-sub (d .shapes) s i h); index = has-anchor (d .shapes) s i h }
-stands d (setRadius s i r) few h = record { begins = refl; inside = total-in (d .shapes) s (has-sub (d .shapes) s i h); index = has-anchor (d .shapes) s i h }
+stands d (move s i new) few h = record { begins = refl; inside = total-in (d .shapes) s (has-says (d .shapes) s i h .0); index = has-says (d .shapes) s i h .1 }
+stands d (setRadius s i r) few h = record { begins = refl; inside = total-in (d .shapes) s (has-says (d .shapes) s i h .0); index = has-says (d .shapes) s i h .1 }
 stands d (split s a t) few h =
     let there = segment-sub (d .shapes) s a h in
     let seg = segment-there (d .shapes) s a h in

@@ -9,6 +9,8 @@ use lib.Dec.{leb, ltb, eqb}
 use lib.ListN.{length, take, drop}
 use lib.Ieee.{Float, nan}
 use borrow.Author.Tests.{leb-true, le-leb}
+use Rattle.views.proofs.Searches.{all-says, all-true}
+use Rattle.path.proofs.Anchors.{anchor-good}
 use Rattle.views.specs.View.{entry, overwrite}
 use Rattle.views.specs.Search.{all}
 use Rattle.views.proofs.Laws.{length-tabulate, length-overwrite, at-overwrite}
@@ -18,7 +20,7 @@ use Rattle.refusal.proofs.Verdicts.{holds-true, by-none}
 use Rattle.path.specs.declared.anchor.Anchor.{Anchor}
 use Rattle.path.specs.Shape.{countOf, closedOf, total, wordAt, start}
 use Rattle.path.specs.Flat.{anchorAt, numbers, nth, listed, anchorNumbers}
-use Rattle.path.specs.Limit.{anchorIn}
+use Rattle.path.specs.Limit.{anchorGood, anchorIn}
 use Rattle.path.proofs.Limits.{GoodBelow}
 use Rattle.path.proofs.Places.{anchor-number}
 use Rattle.path.proofs.Shapes.{total-in}
@@ -37,11 +39,11 @@ use Rattle.session.specs.Drawing.{Drawing, Lent}
 use Rattle.cache.specs.Cache.{cachedIn}
 use Rattle.cache.specs.Tests.{cacheFits}
 use Rattle.cache.specs.Calls.{heldOutline, assembleVerdict, assembleShapes, assembleAnchors}
-use Rattle.session.specs.Edits.{anchorGood, placesOf}
+use Rattle.session.specs.Edits.{placesOf}
 use Rattle.session.specs.Outline.{Outline, plainCut, plainText, assembledFrom}
 use Rattle.session.specs.Demand.{Holds, Outlined}
 use Rattle.session.proofs.Judging.{and-left, and-right}
-use Rattle.session.proofs.Lents.{anchor-is, anchor-good}
+use Rattle.session.proofs.Lents.{anchor-is}
 use Rattle.session.proofs.Step.{Fine}
 use Rattle.session.proofs.Outlines.{start-number, end-number, outline-plain, outline-cut, words-cut}
 use Rattle.svg.proofs.Texts.{text-same}
@@ -63,17 +65,6 @@ every-at (a ∷ xs) h zero l = and-left (anchorGood a) (every xs) h
 every-at (a ∷ xs) h (suc k) l = every-at xs (and-right (anchorGood a) (every xs) h) k (le-of-suc-le-suc l)
 
 -- twelve good numbers are two good anchors
-all-says : (p : ℕ → Bool) (n : ℕ) → all p n ≡ true → (k : ℕ) → k < n → p k ≡ true
-unfolding all
-all-says p zero h k l = absurd (not-suc-le-zero l)
-all-says p (suc n) h zero l = and-left (p zero) (all (λ j. p (suc j)) n) h
-all-says p (suc n) h (suc k) l = all-says (λ j. p (suc j)) n (and-right (p zero) (all (λ j. p (suc j)) n) h) k (le-of-suc-le-suc l)
-
-all-good : (p : ℕ → Bool) (n : ℕ) → ((k : ℕ) → k < n → p k ≡ true) → all p n ≡ true
-unfolding all
-all-good p zero h = refl
-all-good p (suc n) h = rw (h zero (suc-le-suc zero-le)) (all-good (λ j. p (suc j)) n (λ j l. h (suc j) (suc-le-suc l)))
-
 abbrev Good : Place → Type 0
 Good p = (anchorGood (p .start) ≡ true) × (anchorGood (p .end) ≡ true)
 
@@ -81,7 +72,7 @@ good-place : (f : ℕ → Place) (k : ℕ) → cachedIn f k ≡ true → Good (f
 unfolding cachedIn anchorGood
 good-place f k h =
     let at = all-says (λ i. inLimit (entry (placeNumbers (f k)) i)) 12 h in
-    (all-good _ 6 (λ i l. ap inLimit (sym (start-number (f k) i l)) ∙ at i (omega arith)), all-good _ 6 (λ i l. ap inLimit (sym (end-number (f k) i)) ∙ at (6 + i) (omega arith)))
+    (all-true _ 6 (λ i l. ap inLimit (sym (start-number (f k) i l)) ∙ at i (omega arith)), all-true _ 6 (λ i l. ap inLimit (sym (end-number (f k) i)) ∙ at (6 + i) (omega arith)))
 
 -- ---- so is every anchor that good places make
 module _ (c : Bool) (f : ℕ → Place) where

@@ -16,8 +16,8 @@ use Rattle.cubic.specs.Cubic.{splitCubic}
 use Rattle.path.specs.declared.anchor.Anchor.{Anchor}
 use Rattle.path.specs.Anchor.{isSmooth}
 use Rattle.path.specs.Flat.{numbers, anchorNumbers}
-use Rattle.path.specs.Limit.{anchorIn, placeIn}
-use Rattle.path.specs.Shape.{subOf, isSegment, prev, next}
+use Rattle.path.specs.Limit.{anchorGood, anchorIn, placeIn}
+use Rattle.path.specs.Shape.{subOf, isSegment, prev, next, hasAnchor}
 use Rattle.call.specs.Tests.{places, pathFits, drawingFits, drawingLimit}
 use Rattle.corner.specs.Corner.{cornerOf, maxRadiusBeside}
 use Rattle.cut.specs.View.{arrives, leaves}
@@ -32,7 +32,7 @@ use Rattle.session.specs.Drawing.{Lent, drawn, cornerKind, viewIn}
 use Rattle.cache.specs.Cache.{placeOfPath, cachedFlags, cachedIn}
 use Rattle.cache.specs.Tests.{cacheFits}
 use Rattle.edit.specs.Split.{halves, shifted, splitAnchors, splitShapes, hasSegment}
-use Rattle.session.specs.Edits.{move, setRadius, split, anchorGood, hasAnchor, moved, resized, segmentStart, segmentEnd, splitRadii, splitAt, editOf, placesOf}
+use Rattle.session.specs.Edits.{move, setRadius, split, moved, resized, segmentStart, segmentEnd, splitRadii, splitAt, editOf, placesOf}
 use Rattle.session.specs.Calls.{listsFit, writtenGood, recutGood, editLimit, roomIn, editVerdict, editAnswer, flagsAfter, editedLists, listsAfter, callVerdict, callAnswer, callLists}
 
 abbrev half : Float

@@ -11,7 +11,7 @@ use Rattle.views.specs.Search.{count}
 use Rattle.views.proofs.Searches.{count-more, count-same}
 use Rattle.path.specs.declared.anchor.Anchor.{Anchor}
 use Rattle.path.specs.Shape.{countOf, closedOf, total, wordAt, start}
-use Rattle.path.proofs.Shapes.{total-in}
+use Rattle.path.proofs.Shapes.{total-in, has-says}
 use Rattle.cut.specs.View.{View}
 use Rattle.cut.specs.Subpath.{viewOf}
 use Rattle.cut.specs.Near.{gap, near, nearCount}
@@ -21,7 +21,7 @@ use Rattle.session.specs.Drawing.{Drawing, viewIn}
 use Rattle.session.specs.Edits.{Call, move, setRadius, split, moved, resized, splitAt, editOf}
 use Rattle.session.specs.Model.{recutCount}
 use Rattle.session.proofs.Splits.{reached-here, reached-below, reached-past, split-count, split-closed, split-total}
-use Rattle.session.proofs.Effects.{has-sub, segment-sub, segment-there, sub-small}
+use Rattle.session.proofs.Effects.{segment-sub, segment-there, sub-small}
 
 -- ---- counts in parts
 count-none : (p : ℕ → Bool) (n : ℕ) → ((k : ℕ) → k < n → p k ≡ false) → count p n ≡ 0
@@ -83,8 +83,8 @@ split-recut d s a t few h =
 
 pub recut-count : (d : Drawing) (c : Call) → total (d .shapes) ≤ 512 → editOf d c .known ≡ true → count (editOf d c .recuts) (total (editOf d c .made .shapes)) ≡ recutCount d c
 unfolding recutCount editOf moved resized viewIn viewOf subAt
-recut-count d (move s i new) few h = reached-count (viewIn (moved d (start (d .shapes) s + i) new) s) (start (d .shapes) s) 3 i (total (d .shapes)) (total-in (d .shapes) s (has-sub (d .shapes) s i h))
-recut-count d (setRadius s i r) few h = reached-count (viewIn (resized d (start (d .shapes) s + i) r) s) (start (d .shapes) s) 2 i (total (d .shapes)) (total-in (d .shapes) s (has-sub (d .shapes) s i h))
+recut-count d (move s i new) few h = reached-count (viewIn (moved d (start (d .shapes) s + i) new) s) (start (d .shapes) s) 3 i (total (d .shapes)) (total-in (d .shapes) s (has-says (d .shapes) s i h .0))
+recut-count d (setRadius s i r) few h = reached-count (viewIn (resized d (start (d .shapes) s + i) r) s) (start (d .shapes) s) 2 i (total (d .shapes)) (total-in (d .shapes) s (has-says (d .shapes) s i h .0))
 recut-count d (split s a t) few h = split-recut d s a t few h
 
 -- ---- document 01's sample pieces, on any drawing of one subpath: closed 8, move 7, radius 5; closed 5, move 5; open 10, move of anchor 0, 4; open 10 split at segment 0, 6

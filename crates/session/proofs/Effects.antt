@@ -11,8 +11,8 @@ use lib.Ieee.{Float}
 use borrow.Author.Tests.{ltb-true, eqb-false, ne-eqb}
 use Rattle.views.proofs.Laws.{same}
 use Rattle.path.specs.declared.anchor.Anchor.{Anchor}
-use Rattle.path.specs.Shape.{countOf, closedOf, total, wordAt, start, subOf, isSegment, next}
-use Rattle.path.proofs.Shapes.{total-in}
+use Rattle.path.specs.Shape.{countOf, closedOf, total, wordAt, start, subOf, isSegment, next, hasAnchor}
+use Rattle.path.proofs.Shapes.{total-in, has-says}
 use Rattle.cut.specs.Subpath.{viewOf}
 use Rattle.cut.specs.Near.{old}
 use Rattle.cut.specs.Recut.{reached}
@@ -22,21 +22,13 @@ use Rattle.cut_calls.specs.PlainCut.{subAt}
 use Rattle.session.specs.Drawing.{Drawing, viewIn}
 use Rattle.cache.specs.Cache.{placeOfPath}
 use Rattle.edit.specs.Split.{shifted, splitAnchors, hasSegment}
-use Rattle.session.specs.Edits.{Call, move, setRadius, split, Edit, hasAnchor, moved, resized, segmentStart, segmentEnd, splitRadii, splitAt, editOf, placesOf}
+use Rattle.session.specs.Edits.{Call, move, setRadius, split, Edit, moved, resized, segmentStart, segmentEnd, splitRadii, splitAt, editOf, placesOf}
 use Rattle.session.specs.Model.{recutCount}
 use Rattle.session.proofs.Shapes.{In, sub-in, sub-is}
 use Rattle.session.proofs.Judging.{and-left, and-right}
 use Rattle.session.proofs.Splits.{like-places, reached-here, segment-in, anchor-stood, split-stood, split-kept}
 
 -- ---- references that are there
-pub has-sub : (shapes : List ℕ) (s i : ℕ) → hasAnchor shapes s i ≡ true → s < length shapes
-unfolding hasAnchor
-has-sub shapes s i h = ltb-true s (length shapes) (and-left (ltb s (length shapes)) (ltb i (countOf (wordAt shapes s))) h)
-
-pub has-anchor : (shapes : List ℕ) (s i : ℕ) → hasAnchor shapes s i ≡ true → i < countOf (wordAt shapes s)
-unfolding hasAnchor
-has-anchor shapes s i h = ltb-true i (countOf (wordAt shapes s)) (and-right (ltb s (length shapes)) (ltb i (countOf (wordAt shapes s))) h)
-
 pub segment-sub : (shapes : List ℕ) (s a : ℕ) → hasSegment shapes s a ≡ true → s < length shapes
 unfolding hasSegment
 segment-sub shapes s a h = ltb-true s (length shapes) (and-left (ltb s (length shapes)) (isSegment (countOf (wordAt shapes s)) (closedOf (wordAt shapes s)) a) h)
@@ -150,12 +142,12 @@ unfolding editOf moved resized splitAt segmentStart
 faithful d (move s i new) few h = record {
   stood-in = λ k l. l;
   anchor-kept = λ k l e. moved-kept d (start (d .shapes) s + i) new k e;
-  cut-kept = λ k l far. move-kept d s i (has-sub (d .shapes) s i h) (has-anchor (d .shapes) s i h) new k l far;
+  cut-kept = λ k l far. move-kept d s i (has-says (d .shapes) s i h .0) (has-says (d .shapes) s i h .1) new k l far;
 }
 faithful d (setRadius s i r) few h = record {
   stood-in = λ k l. l;
   anchor-kept = λ k l e. refl;
-  cut-kept = λ k l far. radius-kept d s i (has-sub (d .shapes) s i h) (has-anchor (d .shapes) s i h) r k l far;
+  cut-kept = λ k l far. radius-kept d s i (has-says (d .shapes) s i h .0) (has-says (d .shapes) s i h .1) r k l far;
 }
 faithful d (split s a t) few h =
     let there = segment-sub (d .shapes) s a h in

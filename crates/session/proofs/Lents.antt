@@ -17,11 +17,10 @@ use Rattle.real.specs.Limit.{inLimit}
 use Rattle.path.specs.declared.anchor.Anchor.{Anchor}
 use Rattle.path.specs.Shape.{total}
 use Rattle.path.specs.Flat.{anchorAt, numbers, anchorNumbers}
-use Rattle.path.specs.Limit.{anchorIn}
+use Rattle.path.specs.Limit.{anchorGood, anchorIn}
 use Rattle.path.proofs.Places.{anchor-number, numbers-at}
 use Rattle.call.specs.Tests.{pathFits, drawingFits}
 use Rattle.session.specs.Drawing.{Lent}
-use Rattle.session.specs.Edits.{anchorGood}
 use Rattle.cache.specs.Tests.{cacheFits}
 use Rattle.session.specs.Calls.{listsFit, roomIn}
 use Rattle.session.specs.Model.{Lengths, lengthsOf, longFor, smallPath}
@@ -109,10 +108,6 @@ anchor-is xs k a h =
 pub anchor-same : (xs ys : List Float) (k : ℕ) → ((j : ℕ) → j < k * 6 + 6 → entry xs j ≡ entry ys j) → anchorAt xs k ≡ anchorAt ys k
 anchor-same xs ys k h =
     rw (h (k * 6) (omega arith), h (k * 6 + 1) (omega arith), h (k * 6 + 2) (omega arith), h (k * 6 + 3) (omega arith), h (k * 6 + 4) (omega arith), h (k * 6 + 5) (omega arith))
-
-pub anchor-good : (xs : List Float) (k : ℕ) → anchorIn xs k ≡ anchorGood (anchorAt xs k)
-unfolding anchorIn anchorGood
-anchor-good xs k = all-cong _ _ 6 (λ i l. ap inLimit (sym (sym (anchor-number (anchorAt xs) k i l) ∙ numbers-at xs (k * 6 + i))))
 
 pub back-anchor : (n : ℕ) (f : ℕ → Anchor) (xs before : List Float) → n * 6 ≤ length xs → (k : ℕ) → k < n → anchorAt (back (overwrite (n * 6) (anchorNumbers f) xs) before) k ≡ f k
 back-anchor n f xs before h k l =

@@ -10,14 +10,14 @@ use Rattle.refusal.specs.Order.{passes, holds, accepted, refused, verdict, test
 use Rattle.refusal.proofs.Verdicts.{holds-true, holds-false, by-lists, by-arguments, by-reference, by-capacity, by-result, by-output, by-none}
 use Rattle.path.specs.declared.anchor.Anchor.{Anchor}
 use Rattle.path.specs.Shape.{total, start}
-use Rattle.path.specs.Limit.{placeIn}
+use Rattle.path.specs.Limit.{anchorGood, placeIn}
 use Rattle.path.proofs.Limits.{GoodBelow, Least}
 use Rattle.call.specs.Tests.{drawingLimit}
 use Rattle.call.proofs.Openings.{places-fail, places-pass}
 use Rattle.cut_calls.specs.CornerKinds.{kindOf, isKnown}
 use Rattle.session.specs.declared.answers.Edited.the-variants.{Refused, Accepted}
 use Rattle.session.specs.Drawing.{Lent, drawn}
-use Rattle.session.specs.Edits.{Call, move, setRadius, Edit, anchorGood, moved, resized, editOf}
+use Rattle.session.specs.Edits.{Call, move, setRadius, Edit, moved, resized, editOf}
 use Rattle.session.specs.Calls.{listsFit, writtenGood, recutGood, editLimit, roomIn, editVerdict, editAnswer, editedLists, listsAfter, callVerdict, callAnswer, callLists}
 use Rattle.session.specs.Model.{lengthsOf, longFor, smallPath, recutCount}
 use Rattle.session.proofs.Judging.{and-left, and-right}

@@ -7,25 +7,26 @@ use lib.Dec.{leb}
 use lib.ListN.{length}
 use lib.Ieee.{Float}
 use borrow.Author.Tests.{leb-true}
+use Rattle.path.proofs.Anchors.{anchor-good}
 use Rattle.views.specs.View.{entry}
 use Rattle.real.specs.Limit.{inLimit}
 use Rattle.refusal.specs.Order.{passes, holds, accepted, verdict}
 use Rattle.path.specs.declared.anchor.Anchor.{Anchor}
 use Rattle.path.specs.Shape.{total}
 use Rattle.path.specs.Flat.{anchorAt}
-use Rattle.path.specs.Limit.{placeIn}
+use Rattle.path.specs.Limit.{anchorGood, placeIn}
 use Rattle.path.proofs.Limits.{GoodBelow}
 use Rattle.call.specs.Tests.{places, drawingLimit}
 use Rattle.cut.specs.declared.places.Place.{Place}
 use Rattle.cut_calls.specs.CornerKinds.{kindOf, isKnown}
 use Rattle.session.specs.Drawing.{Drawing, Lent, drawn}
 use Rattle.cache.specs.Cache.{cachedIn}
-use Rattle.session.specs.Edits.{Call, Edit, anchorGood, editOf, placesOf}
+use Rattle.session.specs.Edits.{Call, Edit, editOf, placesOf}
 use Rattle.session.specs.Calls.{listsFit, writtenGood, recutGood, editLimit, roomIn, editVerdict, callVerdict}
 use Rattle.session.specs.Model.{lengthsOf, longFor, smallPath, drawingIn, wholeLimit, modelVerdict}
 use Rattle.session.proofs.Judging.{and-left, and-right, holds-says, places-say, places-same, verdict-same}
 use Rattle.session.proofs.Effects.{Faithful, faithful, draw, Alike, places-alike, made-alike, made-places, loose-same, known-same, shapes-same}
-use Rattle.session.proofs.Lents.{fits-same, room-same, anchor-good}
+use Rattle.session.proofs.Lents.{fits-same, room-same}
 
 cached-same : (f g : ℕ → Place) (j k : ℕ) → f j ≡ g k → cachedIn f j ≡ cachedIn g k
 unfolding cachedIn

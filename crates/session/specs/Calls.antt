@@ -18,7 +18,8 @@ use Rattle.session.specs.Drawing.{Lent, drawn}
 use Rattle.cache.specs.Cache.{cachedNumbers, cachedFlags, cachedIn}
 use Rattle.cache.specs.Tests.{cacheFits}
 use Rattle.cache.specs.Calls.{buildVerdict, buildNumbers, buildFlags}
-use Rattle.session.specs.Edits.{Call, Edit, anchorGood, editOf, placesOf}
+use Rattle.path.specs.Limit.{anchorGood}
+use Rattle.session.specs.Edits.{Call, Edit, editOf, placesOf}
 
 -- ---- tests
 -- 7: a drawing, and a cache for it

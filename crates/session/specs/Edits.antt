@@ -1,17 +1,14 @@
 -- The three edits: what each makes of a drawing, which anchors it writes, which places it recuts (document 01, 'Kept outline'). Assumes nothing.
 use Prim.Native.Nat.{ℕ, _+_}
-use mathlib.Core.Bool.{Bool, false, _&&_, _||_, cond}
+use mathlib.Core.Bool.{Bool, false, _||_, cond}
 use mathlib.Core.List.{List}
-use lib.Dec.{ltb, eqb}
-use lib.ListN.{length}
+use lib.Dec.{eqb}
 use lib.Ieee.{Float}
-use Rattle.views.specs.View.{entry}
-use Rattle.views.specs.Search.{all}
 use Rattle.real.specs.Operators.{0f}
 use Rattle.real.specs.Limit.{inLimit}
 use Rattle.path.specs.declared.anchor.Anchor.{Anchor}
-use Rattle.path.specs.Flat.{numbers}
-use Rattle.path.specs.Shape.{countOf, wordAt, start, next}
+use Rattle.path.specs.Limit.{anchorGood}
+use Rattle.path.specs.Shape.{countOf, wordAt, start, hasAnchor, next}
 use Rattle.cut.specs.declared.places.Place.{Place}
 use Rattle.cut.specs.Near.{old}
 use Rattle.cut.specs.Recut.{reached}
@@ -39,14 +36,6 @@ pub record Edit : Type 0 where
   pub recuts : ℕ → Bool
   -- where a place stood before
   pub stood : ℕ → ℕ
-
--- the six numbers of an anchor are within the limit
-unfoldable pub anchorGood : Anchor → Bool
-anchorGood a = all (λ i. inLimit (entry (numbers a) i)) 6
-
--- subpath s has an anchor i
-unfoldable pub hasAnchor : List ℕ → ℕ → ℕ → Bool
-hasAnchor shapes s i = ltb s (length shapes) && ltb i (countOf (wordAt shapes s))
 
 -- ---- the drawings made
 unfoldable pub moved : Drawing → ℕ → Anchor → Drawing

@@ -13,7 +13,8 @@ use Rattle.cut_calls.specs.CornerKinds.{kindOf, isKnown}
 use Rattle.session.specs.declared.answers.Edited.{Edited}
 use Rattle.session.specs.Drawing.{Drawing, Lent}
 use Rattle.cache.specs.Cache.{cachedIn}
-use Rattle.session.specs.Edits.{Call, move, setRadius, split, anchorGood, editOf, placesOf}
+use Rattle.path.specs.Limit.{anchorGood}
+use Rattle.session.specs.Edits.{Call, move, setRadius, split, editOf, placesOf}
 use Rattle.session.specs.Calls.{editAnswer}
 
 -- the lent lists' lengths, but for the shape list's, which is the drawing's

@@ -5,8 +5,8 @@ use mathlib.Core.Bool.{Bool, _&&_}
 use mathlib.Core.List.{List}
 use lib.ListN.{length}
 use lib.Ieee.{Float}
-use Rattle.real.specs.Limit.{inLimit}
 use Rattle.geom.specs.declared.point.P.{P}
+use Rattle.geom.specs.Point.{pointIn}
 use Rattle.refusal.specs.Order.{passes, holds, Verdict, verdict, tests}
 use Rattle.path.specs.declared.anchor.Anchor.{Anchor}
 use Rattle.path.specs.Shape.{wordOf}
@@ -14,10 +14,7 @@ use Rattle.call.specs.declared.answers.Outline.{Outline}
 use Rattle.call.specs.Tests.{outlineLimit, roomFor}
 use Rattle.call.specs.Answers.{outlineAnswer, listLeft, anchorsLeft}
 
--- a point, and two points, within the limit
-unfoldable pub pointIn : P → Bool
-pointIn p = inLimit (p .x) && inLimit (p .y)
-
+-- two points within the limit
 unfoldable pub pairIn : P → P → Bool
 pairIn a b = pointIn a && pointIn b
 

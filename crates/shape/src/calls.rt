@@ -7,7 +7,7 @@ ghost use Rattle.real.specs.Limit.{inLimit};
 ghost use Rattle.path.specs.Shape.{wordOf};
 ghost use Rattle.call.specs.Answers.{handedAnswer, handedShapes, handedAnchors};
 ghost use Rattle.shape.specs.Outlines.{rectAnchors, ellipseAnchors, lineAnchors};
-ghost use Rattle.shape.specs.Calls.{pointIn, pairIn, shapeAnswer, shapeWord, shapeNumbers};
+ghost use Rattle.shape.specs.Calls.{pairIn, shapeAnswer, shapeWord, shapeNumbers};
 use crate::outlines::centre;
 use crate::outlines::fitted_radius;
 use crate::outlines::greatest;
@@ -20,16 +20,10 @@ use crate::outlines::semi_axis;
 use call::Outline;
 use geom::P;
 
-fn point_in_limit(p: P) -> bool
-    ensures { λ r. ⌜ r ≡ pointIn p ⌝ }
-{
-    real::in_limit(p.x) && real::in_limit(p.y)
-}
-
 fn pair_in_limit(a: P, b: P) -> bool
     ensures { λ r. ⌜ r ≡ pairIn a b ⌝ }
 {
-    point_in_limit(a) && point_in_limit(b)
+    a.in_limit() && b.in_limit()
 }
 
 // One subpath of n anchors goes to the lent lists.

@@ -17,7 +17,7 @@ use Rattle.refusal.specs.Order.{passes}
 use Rattle.path.specs.declared.anchor.Anchor.{Anchor}
 use Rattle.path.specs.Shape.{total}
 use Rattle.path.specs.Flat.{anchorAt, numbers, anchorNumbers, nth}
-use Rattle.path.specs.Limit.{withinLimit}
+use Rattle.path.specs.Limit.{withinLimit, anchorGood}
 use Rattle.path.proofs.Shapes.{Fits}
 use Rattle.path.proofs.Limits.{anchors-in}
 use Rattle.path.proofs.Places.{anchor-number}
@@ -77,7 +77,7 @@ module _ (shapes : List ℕ) (anchors m : List Float) (n : ℕ) (f : Fits shapes
       sym (path-good 512 shapes anchors n f h (λ k l. anchors-in anchors n g k (omega arith))) ∙ ap Anchors e
 
   pub result-passes : all (λ i. inLimit (anchorNumbers (mappedAt m anchors) i)) (n * 6) ≡ true → outlineLimit (mappedPath m shapes anchors) ≡ passes
-  unfolding outlineLimit mappedPath outlineIn nth
+  unfolding outlineLimit mappedPath outlineIn anchorGood nth
   result-passes g = places-pass (outlineIn (tabulate (total shapes) (mappedAt m anchors))) _ passes good
     where
       good : (k : ℕ) → k < length (tabulate (total shapes) (mappedAt m anchors)) → outlineIn (tabulate (total shapes) (mappedAt m anchors)) k ≡ true

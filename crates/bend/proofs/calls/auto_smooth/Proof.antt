@@ -10,7 +10,7 @@ use Rattle.call.proofs.Openings.{PathOpens, path-opens}
 use Rattle.call.proofs.Handings.{outline-refused, anchors-kept}
 use Rattle.bend.specs.Edits.{smoothPath, smoothVerdict, smoothAnswer, smoothLeft}
 use Rattle.bend.proofs.Outcomes.{path-fails, unknown, edit-rest}
-use Rattle.bend.proofs.Smooths.{has-anchor-says}
+use Rattle.path.proofs.Shapes.{has-says}
 use Rattle.bend.proofs.calls.auto_smooth.Statement.{statement}
 use Rattle.bend.proofs.calls.auto_smooth.Tie as tie
 
@@ -26,7 +26,7 @@ returns c =
 smooth-known-requires : tie.Need-smooth-known-requires
 smooth-known-requires c κs =
     let o = opens (c .before .before .before .before) in
-    let h = has-anchor-says _ _ _ (sym (c .before .before .has-anchor .ensures) ∙ not-false _ (c .before .if1 .left)) in
+    let h = has-says _ _ _ (sym (c .before .before .has-anchor .ensures) ∙ not-false _ (c .before .if1 .left)) in
     (o .words, o .few, o .long, o .count, h .0, h .1, o .good)
 
 returns-2 : tie.Need-returns-2

@@ -157,7 +157,7 @@ bend-known-spec =
     (λ c. let h = has-bend-says _ _ _ (c .before .before .before .pre .4) .0 in omega arith)
     (λ c κs. tt)
     returns
-    (λ c κs. let h = has-bend-says _ _ _ (c .before .before .before .before .before .pre .4) .0 in (c .before .before .before .before .before .pre .0, omega arith))
+    (λ c κs. let h = has-bend-says _ _ _ (c .before .before .before .before .before .pre .4) .0 in (omega arith, c .before .before .before .before .before .pre .0))
     (λ c. let i = index-in c in let l = numbers-in c in record { fits = omega arith })
     (λ c κs. index-in c)
     (λ c. let i = next-in c in let l = numbers-in (c .before) in record { fits = omega arith })

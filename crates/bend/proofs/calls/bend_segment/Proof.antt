@@ -6,12 +6,13 @@ use lib.ListN.{length}
 use borrow.Author.Needs.{needs}
 use borrow.Author.Tests.{not-true, not-false}
 use Rattle.real.specs.Limit.{inLimit}
+use Rattle.geom.specs.Point.{pointIn}
 use Rattle.path.specs.Shape.{total}
 use Rattle.call.specs.Answers.{outlineAnswer, anchorsLeft}
 use Rattle.call.proofs.Openings.{PathOpens, path-opens}
 use Rattle.call.proofs.Handings.{outline-refused, anchors-kept}
 use Rattle.bend.specs.Bent.{pull}
-use Rattle.bend.specs.Edits.{lastVerdict, pointIn, bendPath, bendVerdict, bendAnswer, bendLeft}
+use Rattle.bend.specs.Edits.{lastVerdict, bendPath, bendVerdict, bendAnswer, bendLeft}
 use Rattle.bend.proofs.Outcomes.{path-fails, loose-fails, unknown, edit-rest}
 use Rattle.bend.proofs.calls.bend_segment.Statement.{statement}
 use Rattle.bend.proofs.calls.bend_segment.Tie as tie
@@ -24,7 +25,7 @@ t-in : (c : tie.Else1) → inLimit (c .before .before .before .before .before .b
 t-in c = sym (c .before .in-limit .ensures) ∙ not-false _ (c .if1 .left)
 
 given : (c : tie.Else2) → let a = c .before .before .before .before .before .before .before .before .before .before .before .args in (inLimit (a .t) && pointIn (a .delta)) ≡ true
-given c = rw (t-in (c .before .before)) (sym (c .before .point-in-limit .ensures) ∙ not-false _ (c .if2 .left))
+given c = rw (t-in (c .before .before)) (sym (c .before .in-limit2 .ensures) ∙ not-false _ (c .if2 .left))
 
 returns : tie.Need-returns
 unfolding bendAnswer bendLeft bendVerdict
@@ -39,7 +40,7 @@ returns-2 : tie.Need-returns-2
 unfolding bendAnswer bendLeft bendVerdict
 returns-2 c =
     let a = c .before .before .before .before .before .before .before .before .before .before .before .args in
-    let g : (inLimit (a .t) && pointIn (a .delta)) ≡ false = rw (t-in (c .before .before)) (sym (c .before .point-in-limit .ensures) ∙ not-true _ (c .if2 .taken)) in
+    let g : (inLimit (a .t) && pointIn (a .delta)) ≡ false = rw (t-in (c .before .before)) (sym (c .before .in-limit2 .ensures) ∙ not-true _ (c .if2 .taken)) in
     let v = loose-fails _ _ _ _ _ _ (opens (c .before .before .before .before .before)) g in
     (outline-refused _ _ v, anchors-kept _ _ v)
 

@@ -11,7 +11,8 @@ use Rattle.path.proofs.Shapes.{total-in}
 use Rattle.call.specs.declared.answers.Outline.the-variants.{Refused, Accepted}
 use Rattle.call.proofs.Handings.{outline-refused, outline-accepted, anchors-kept, anchors-written}
 use Rattle.bend.specs.Smoothed.{smoothedAt}
-use Rattle.bend.specs.Edits.{anchorWithin, smoothPath}
+use Rattle.path.specs.Limit.{anchorGood}
+use Rattle.bend.specs.Edits.{smoothPath}
 use Rattle.bend.proofs.Afterwards.{none-good, none-put, one-bad, one-good, one-put}
 use Rattle.bend.proofs.Smooths.{place-inside, alone-kept, others-kept, put-anew, made-of}
 use Rattle.bend.proofs.calls.smooth_known.Statement.{statement}
@@ -85,7 +86,7 @@ returns-2 c =
     let p = s m .pre in
     let v =
     one-bad _ _ _ (p .6) (p .2) _ _ (inside m) (put-anew _ _ _ _ (two m)) (others-kept _ _ _ _)
-    (ap anchorWithin (sym (value m)) ∙ sym (c .before .anchor-in-limit .ensures) ∙ not-true _ (c .if2 .taken)) in
+    (ap anchorGood (sym (value m)) ∙ sym (c .before .in-limit .ensures) ∙ not-true _ (c .if2 .taken)) in
     (ap (λ z. Refused 9 (z + a .k)) (m .before .before .before .before .before .before .before .start-of .ensures) ∙ outline-refused _ _ v, anchors-kept _ _ v)
 
 returns-3 : tie.Need-returns-3
@@ -96,7 +97,7 @@ returns-3 c =
     let p = s m .pre in
     let v =
     one-good _ _ _ (p .6) (p .2) _ _ (inside m) (put-anew _ _ _ _ (two m)) (others-kept _ _ _ _)
-    (ap anchorWithin (sym (value m)) ∙ sym (c .before .before .before .before .before .anchor-in-limit .ensures) ∙ not-false _ (c .before .before .before .before .if2 .left)) in
+    (ap anchorGood (sym (value m)) ∙ sym (c .before .before .before .before .before .in-limit .ensures) ∙ not-false _ (c .before .before .before .before .if2 .left)) in
     let put = one-put _ _ _ (p .6) (p .2) _ _ (inside m) (put-anew _ _ _ _ (two m)) (others-kept _ _ _ _) in (
       ap (Accepted (length (a .shapes .now))) (p .3) ∙ outline-accepted _ _ v,
       c .before .before .put-anchor .ensures

@@ -45,14 +45,14 @@ unfolding cubicAtAnswer
 returns-2 c =
     let p = c .before .before in
     rw (← p .cubic-at .ensures)
-    (point-refused _ (made-fails _ (given (p .before)) (failed (c .before .point-in-limit .ensures) (c .if3 .taken))))
+    (point-refused _ (made-fails _ (given (p .before)) (failed (c .before .in-limit2 .ensures) (c .if3 .taken))))
 
 returns-3 : tie.Need-returns-3
 unfolding cubicAtAnswer
 returns-3 c =
     let p = c .before .before in
     rw (← p .cubic-at .ensures)
-    (point-accepted _ (all-hold (given (p .before)) (held (c .before .point-in-limit .ensures) (c .if3 .left)) refl))
+    (point-accepted _ (all-hold (given (p .before)) (held (c .before .in-limit2 .ensures) (c .if3 .left)) refl))
 
 pub cubic-at-spec : {M : Type 1} → statement M
 cubic-at-spec = tie.close (tie.spec (λ c κs. tt) (λ c κs. tt) returns (λ c κs. tt) (λ c κs. tt) returns-2 returns-3)

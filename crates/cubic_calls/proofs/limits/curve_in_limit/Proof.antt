@@ -8,7 +8,8 @@ use borrow.Author.Needs.{needs}
 use borrow.Author.Tests.{not-true, not-false}
 use Rattle.views.proofs.Searches.{all-true, all-false}
 use Rattle.geom.specs.Flat.{pt}
-use Rattle.cubic_calls.specs.Limits.{pointIn, curveIn}
+use Rattle.geom.specs.Point.{pointIn}
+use Rattle.cubic_calls.specs.Limits.{curveIn}
 use Rattle.cubic_calls.proofs.limits.curve_in_limit.Statement.{statement}
 use Rattle.cubic_calls.proofs.limits.curve_in_limit.Tie as tie
 
@@ -22,12 +23,12 @@ returns : tie.Need-returns Inv-loop μ-loop
 unfolding curveIn
 returns c =
     let l = c .before .before .before .before .loop in
-    sym (all-false _ 4 (l .k) (omega arith) (sym (c .before .point-in-limit .ensures) ∙ not-true _ (c .if1 .taken)))
+    sym (all-false _ 4 (l .k) (omega arith) (sym (c .before .in-limit .ensures) ∙ not-true _ (c .if1 .taken)))
 
 loop-again : tie.Need-loop-again Inv-loop μ-loop
 loop-again c =
     let l = c .before .before .before .before .loop in
-    (omega arith, below-more _ _ (l .inv .1) (sym (c .before .point-in-limit .ensures) ∙ not-false _ (c .if1 .left)))
+    (omega arith, below-more _ _ (l .inv .1) (sym (c .before .in-limit .ensures) ∙ not-false _ (c .if1 .left)))
 
 returns-2 : tie.Need-returns-2 Inv-loop μ-loop
 unfolding curveIn

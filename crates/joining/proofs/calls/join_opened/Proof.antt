@@ -7,7 +7,7 @@ use borrow.Author.Needs.{needs}
 use borrow.Author.Tests.{not-true, not-false}
 use Rattle.refusal.specs.Order.{refused}
 use Rattle.path.specs.Shape.{countOf}
-use Rattle.edit.specs.Limit.{within}
+use Rattle.path.specs.Limit.{anchorGood}
 use Rattle.joining.specs.Joined.{targetAt, jointOf}
 use Rattle.joining.proofs.Outcomes.{join-refused, empty-target, full, joint-refused, short-shapes, short-anchors, join-accepted}
 use Rattle.joining.proofs.calls.join_opened.Statement.{statement}
@@ -44,14 +44,14 @@ returns-3 c =
     let a = o .args in
     let n = c .before .before .before .before .before .before .before .count-of .ensures in
     let d = c .before .before .before .before .before .before-joint .ensures in
-    let w = ap within (sym (joint-is (c .before .before))) ∙ sym (c .before .within .ensures) ∙ not-true _ (c .if3 .taken) in
+    let w = ap anchorGood (sym (joint-is (c .before .before))) ∙ sym (c .before .in-limit .ensures) ∙ not-true _ (c .if3 .taken) in
     let h = join-refused (a .drawn .now) (a .count) (a .target .now) (a .word) (a .at-start) (a .to-shapes .now) (a .to .now) 9 _
     (joint-refused _ _ _ _ _ _ _ (o .pre .0) (o .pre .1) (o .pre .2) (o .pre .3) (o .pre .4) (omega arith) (omega arith) w ∙ ap (refused 9) (sym d)) in
     (h .0, (h .1, h .2))
 
 -- it is in the limit
-inside : (c : tie.Else3) → let a = c .before .before .before .before .before .before .before .before .before .before .before .before .args in within (jointOf (a .drawn .now) (a .count) (targetAt (a .target .now) (countOf (a .word)) (a .at-start) 0)) ≡ true
-inside c = ap within (sym (joint-is (c .before .before))) ∙ sym (c .before .within .ensures) ∙ not-false _ (c .if3 .left)
+inside : (c : tie.Else3) → let a = c .before .before .before .before .before .before .before .before .before .before .before .before .args in anchorGood (jointOf (a .drawn .now) (a .count) (targetAt (a .target .now) (countOf (a .word)) (a .at-start) 0)) ≡ true
+inside c = ap anchorGood (sym (joint-is (c .before .before))) ∙ sym (c .before .in-limit .ensures) ∙ not-false _ (c .if3 .left)
 
 returns-4 : tie.Need-returns-4
 returns-4 c =

@@ -10,10 +10,10 @@ use borrow.Author.Tests.{not-true, not-false}
 use Rattle.views.proofs.Laws.{length-overwrite, at-overwrite}
 use Rattle.views.proofs.Searches.{all-true, all-false}
 use Rattle.path.specs.Shape.{countOf, total, wordAt, start}
-use Rattle.path.proofs.Shapes.{total-in}
+use Rattle.path.proofs.Shapes.{has-says, total-in}
 use Rattle.removal.specs.Deleted.{pairs, namedSubpath, namedAnchor, pointsIn}
 use Rattle.removal.specs.Marks.{Marked}
-use Rattle.removal.proofs.References.{has-says, marked-none, marked-more}
+use Rattle.removal.proofs.References.{marked-none, marked-more}
 use Rattle.removal.proofs.marking.mark_gone.Statement.{statement}
 use Rattle.removal.proofs.marking.mark_gone.Tie as tie
 

@@ -5,11 +5,11 @@ use Rattle.shape.proofs.calls.pair_in_limit.Tie as tie
 
 returns : tie.Need-returns
 unfolding pairIn
-returns c = rw (← c .before .before .point-in-limit .ensures, c .before .if1 .taken) (c .point-in-limit2 .ensures)
+returns c = rw (← c .before .before .in-limit .ensures, c .before .if1 .taken) (c .in-limit2 .ensures)
 
 returns-2 : tie.Need-returns-2
 unfolding pairIn
-returns-2 c = rw (← c .before .point-in-limit .ensures, c .if1 .left)
+returns-2 c = rw (← c .before .in-limit .ensures, c .if1 .left)
 
 pub pair-in-limit-spec : {M : Type 1} → statement M
 pair-in-limit-spec = tie.close (tie.spec (λ c κs. tt) (λ c κs. tt) returns returns-2)

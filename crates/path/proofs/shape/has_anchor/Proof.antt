@@ -1,11 +1,11 @@
--- `bend::places::has_anchor` meets its contract: each way out rewrites with the test that led to it. Assumes nothing.
+-- `path::shape::has_anchor` meets its contract: each way out rewrites with the test that led to it. Assumes nothing.
 use borrow.Author.Needs.{needs}
 use native.Mathlib.Omega.{arith}
 use lib.ListN.{length}
 use borrow.Author.Tests.{lt-ltb, le-ltb}
-use Rattle.bend.specs.Edits.{hasAnchor}
-use Rattle.bend.proofs.places.has_anchor.Statement.{statement}
-use Rattle.bend.proofs.places.has_anchor.Tie as tie
+use Rattle.path.specs.Shape.{hasAnchor}
+use Rattle.path.proofs.shape.has_anchor.Statement.{statement}
+use Rattle.path.proofs.shape.has_anchor.Tie as tie
 
 returns : tie.Need-returns
 unfolding hasAnchor

@@ -1,10 +1,10 @@
--- `edit::splitting::start_of` meets its contract. Assumes nothing.
+-- `path::shape::start_of` meets its contract. Assumes nothing.
 use mathlib.Core.Path.{sym}
 use borrow.Author.Needs.{needs}
 use native.Mathlib.Omega.{arith}
 use lib.ListN.{length-take}
-use Rattle.edit.proofs.splitting.start_of.Statement.{statement}
-use Rattle.edit.proofs.splitting.start_of.Tie as tie
+use Rattle.path.proofs.shape.start_of.Statement.{statement}
+use Rattle.path.proofs.shape.start_of.Tie as tie
 
 total-of-arg : tie.Need-slice-aggregate-total-of
 total-of-arg c = simp length-take (omega arith)
