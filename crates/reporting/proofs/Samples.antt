@@ -8,7 +8,7 @@ use Rattle.views.specs.View.{overwrite}
 use Rattle.cut.specs.Near.{gap, near}
 use Rattle.job.specs.Words.{wordAt}
 use Rattle.decimal.specs.Text.{digits, wholeText}
-use Rattle.cached.specs.Near.{reachedIn}
+use Rattle.recutting.specs.Near.{reachedIn}
 use Rattle.printing.specs.Refused.{refusedText}
 use Rattle.reporting.specs.declared.calls.Calls.the-variants.{Refused, Read}
 use Rattle.reporting.specs.Number.{numberOf}
