@@ -5,3 +5,4 @@ pub mod Outcomes
 pub mod Accepted
 pub mod Limited
 pub mod Theorems
+pub mod Reached

@@ -1,11 +1,4 @@
 pub mod Openings
-pub mod Limits
-pub mod Copies
-pub mod Recuts
-pub mod Parts
-pub mod Rows
 pub mod Edits
 pub mod Moves
 pub mod Radii
-pub mod Makes
-pub mod Splitting

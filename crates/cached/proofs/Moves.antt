@@ -1,9 +1,9 @@
 -- A moved anchor: what the code leaves, by what it found, is what the call's definition says. Assumes nothing.
 use mathlib.Core.Path.{_≡_, refl, sym, ap, _∙_}
 use mathlib.Core.Logic.{_⊎_, ⊎-elim, inl, inr}
-use mathlib.Core.Bool.{Bool, true, false, not, _&&_, _||_, cond}
+use mathlib.Core.Bool.{Bool, true, false, not, _||_, cond}
 use mathlib.Core.List.{List}
-use Prim.Native.Nat.{ℕ, _+_, _-_, _*_, _/_, _%_, _≤_, _<_}
+use Prim.Native.Nat.{ℕ, _+_, _-_, _*_, _≤_, _<_}
 use native.Mathlib.Omega.{arith}
 use lib.Dec.{eqb}
 use lib.ListN.{length}
@@ -21,7 +21,6 @@ use Rattle.path.proofs.Places.{length-put, put-in, put-out, at-put, at-put-othe
 use Rattle.path.proofs.Limits.{GoodBelow}
 use Rattle.corner.specs.declared.cut.CornerKind.{CornerKind}
 use Rattle.cut.specs.declared.subpath.Sub.{Sub}
-use Rattle.cut.specs.declared.subpath.Window.{Window}
 use Rattle.cut.specs.View.{View}
 use Rattle.cut.specs.Subpath.{viewOf}
 use Rattle.cut.specs.Near.{nearCount}
@@ -38,13 +37,13 @@ use Rattle.session.proofs.Splits.{Like}
 use Rattle.session.proofs.Recutting.{given-like}
 use Rattle.session.proofs.Accepted.{move-anchors-left, move-numbers-left, move-flags-left}
 use Rattle.session.proofs.Outcomes.{out-reference, refused-answer, refused-lists, accepted-answer, accepted-lists}
-use Rattle.cached.specs.declared.recutting.Recut.{Recut}
-use Rattle.cached.specs.declared.recutting.Recut.the-variants.{Bad, Count}
+use Rattle.recutting.specs.declared.recutting.Recut.{Recut}
+use Rattle.recutting.specs.declared.recutting.Recut.the-variants.{Bad, Count}
 use Rattle.cached.specs.declared.opening.Ready.the-variants as ready
 use Rattle.cached.specs.Opening.{readyOf}
-use Rattle.cached.specs.Near.{recutFound, recutAnswerOf, recutNumbersLeft, recutFlagsLeft}
+use Rattle.recutting.specs.Near.{recutFound, recutAnswerOf, recutNumbersLeft, recutFlagsLeft}
 use Rattle.cached.proofs.Openings.{ReadyFor, ready-says, edit-closed, Standing, standing}
-use Rattle.cached.proofs.Recuts.{bad-ends, told-bad, told-count, numbers-recut, flags-recut}
+use Rattle.recutting.proofs.Recuts.{bad-ends, told-bad, told-count, numbers-recut, flags-recut}
 use Rattle.cached.proofs.Edits.{edit-bad, edit-good}
 
 -- ---- the old anchor put back restores every number

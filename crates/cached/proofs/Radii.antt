@@ -1,12 +1,12 @@
 -- A radius that is set: what the code leaves, by what it found, is what the call's definition says. Assumes nothing.
 use mathlib.Core.Path.{_≡_, refl, sym, ap, _∙_}
 use mathlib.Core.Logic.{⊎-elim}
-use mathlib.Core.Bool.{Bool, true, false, not, _&&_, _||_, cond}
+use mathlib.Core.Bool.{true, false, cond}
 use mathlib.Core.List.{List}
-use Prim.Native.Nat.{ℕ, _+_, _-_, _*_, _/_, _%_, _≤_, _<_}
+use Prim.Native.Nat.{ℕ, _+_, _<_}
 use native.Mathlib.Omega.{arith}
 use lib.Dec.{eqb}
-use lib.ListN.{length, getD, set, length-set}
+use lib.ListN.{length, set, length-set}
 use lib.Seq.{ext-getD, getD-set-same, getD-set-other}
 use lib.Ieee.{Float, nan}
 use borrow.Author.Tests.{eq-eqb, ne-eqb}
@@ -20,13 +20,11 @@ use Rattle.path.specs.Shape.{countOf, closedOf, total, wordAt, start}
 use Rattle.path.proofs.Limits.{GoodBelow}
 use Rattle.corner.specs.declared.cut.CornerKind.{CornerKind}
 use Rattle.cut.specs.declared.subpath.Sub.{Sub}
-use Rattle.cut.specs.declared.subpath.Window.{Window}
 use Rattle.cut.specs.View.{View}
 use Rattle.cut.specs.Subpath.{viewOf}
 use Rattle.cut.specs.Near.{nearCount}
 use Rattle.cut.specs.Recut.{recutNumbers, recutFlags}
 use Rattle.cut_calls.specs.PlainCut.{subAt}
-use Rattle.cut_calls.specs.CornerKinds.{kindOf, isKnown}
 use Rattle.session.specs.declared.answers.Edited.the-variants.{Refused, Accepted}
 use Rattle.session.specs.Drawing.{Lent, drawn, viewIn}
 use Rattle.session.specs.Edits.{setRadius, Edit, hasAnchor, resized, editOf}
@@ -36,13 +34,13 @@ use Rattle.session.proofs.Splits.{Like}
 use Rattle.session.proofs.Recutting.{given-like}
 use Rattle.session.proofs.Accepted.{radius-radii-left, radius-numbers-left, radius-flags-left}
 use Rattle.session.proofs.Outcomes.{out-reference, refused-answer, refused-lists, accepted-answer, accepted-lists}
-use Rattle.cached.specs.declared.recutting.Recut.{Recut}
-use Rattle.cached.specs.declared.recutting.Recut.the-variants.{Bad, Count}
+use Rattle.recutting.specs.declared.recutting.Recut.{Recut}
+use Rattle.recutting.specs.declared.recutting.Recut.the-variants.{Bad, Count}
 use Rattle.cached.specs.declared.opening.Ready.the-variants as ready
 use Rattle.cached.specs.Opening.{readyOf}
-use Rattle.cached.specs.Near.{recutFound, recutAnswerOf, recutNumbersLeft, recutFlagsLeft}
+use Rattle.recutting.specs.Near.{recutFound, recutAnswerOf, recutNumbersLeft, recutFlagsLeft}
 use Rattle.cached.proofs.Openings.{ReadyFor, ready-says, edit-closed, Standing, standing}
-use Rattle.cached.proofs.Recuts.{bad-ends, told-bad, told-count, numbers-recut, flags-recut}
+use Rattle.recutting.proofs.Recuts.{bad-ends, told-bad, told-count, numbers-recut, flags-recut}
 use Rattle.cached.proofs.Edits.{edit-bad, edit-good}
 
 -- ---- the old radius put back restores every number

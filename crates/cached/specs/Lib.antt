@@ -1,4 +1,1 @@
 pub mod Opening
-pub mod Near
-pub mod Splitting
-pub mod Row

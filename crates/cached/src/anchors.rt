@@ -8,11 +8,11 @@ use crate::opening::Ready;
 use crate::opening::has_anchor;
 use crate::opening::open_edit;
 use crate::opening::sub_at;
-use crate::recutting::Recut;
-use crate::recutting::recut_cache;
 use corner::CornerKind;
 use cut::Window;
 use path::Anchor;
+use recutting::Recut;
+use recutting::recut_cache;
 use session::Edited;
 
 // Six new numbers for anchor i of subpath s; the places within three steps are recut.

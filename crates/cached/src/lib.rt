@@ -1,15 +1,12 @@
-// The cached edits: an anchor moved, a radius set, a segment split, on a lent drawing and its lent cut cache, in place.
+// The cached edits of one anchor: an anchor moved, a radius set, on a lent drawing and its lent cut cache, in place; and the first tests of every cached edit.
 mod anchors;
-mod copying;
-mod making;
 mod opening;
 mod radius;
-mod recutting;
-mod splits;
-mod testing;
-mod writing;
 
 pub use anchors::move_anchor;
+pub use opening::Ready;
+pub use opening::has_segment;
 pub use opening::open_cached;
+pub use opening::open_edit;
+pub use opening::sub_at;
 pub use radius::set_radius;
-pub use splits::split_segment;

@@ -9,10 +9,10 @@ use crate::opening::Ready;
 use crate::opening::has_anchor;
 use crate::opening::open_edit;
 use crate::opening::sub_at;
-use crate::recutting::Recut;
-use crate::recutting::recut_cache;
 use corner::CornerKind;
 use cut::Window;
+use recutting::Recut;
+use recutting::recut_cache;
 use session::Edited;
 
 // A new radius for anchor i of subpath s; the places within two steps are recut.

@@ -10,7 +10,7 @@ use Rattle.cut.specs.declared.subpath.Sub.{Sub}
 use Rattle.cut.specs.declared.subpath.Window.{Window}
 use Rattle.cut.specs.Near.{near}
 use Rattle.decimal.specs.Text.{wholeText}
-use Rattle.cached.specs.Near.{reachedIn}
+use Rattle.recutting.specs.Near.{reachedIn}
 use Rattle.call_lines.specs.Lines.{passing, listed}
 
 -- ---- the places that pass

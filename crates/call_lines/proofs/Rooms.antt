@@ -18,7 +18,7 @@ use Rattle.decimal.specs.Text.{wholeText}
 use Rattle.decimal.proofs.Digits.{whole-room}
 use Rattle.printing.specs.Refused.{refusedText}
 use Rattle.printing.specs.Printed.{fitted}
-use Rattle.cached.specs.Near.{reachedIn}
+use Rattle.recutting.specs.Near.{reachedIn}
 use Rattle.call_lines.specs.Lines.{passing, windowOf, recutPlaces, listed, recutText, Sound}
 use Rattle.call_lines.proofs.Places.{passing-none, passing-same, passing-more, reached-at, reached-before, listed-append}
 

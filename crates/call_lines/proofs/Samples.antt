@@ -5,7 +5,7 @@ use Prim.Native.Nat.{_+_}
 use lib.Ieee.{size}
 use Rattle.cut.specs.Near.{gap, near}
 use Rattle.decimal.specs.Text.{digits, wholeText}
-use Rattle.cached.specs.Near.{reachedIn}
+use Rattle.recutting.specs.Near.{reachedIn}
 use Rattle.printing.specs.Refused.{refusedText}
 use Rattle.call_lines.specs.Lines.{passing, windowOf, subFrom, recutPlaces, listed, recutText, callText, callLine}
 

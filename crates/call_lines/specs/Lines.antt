@@ -9,7 +9,7 @@ use Rattle.path.specs.Shape.{countOf, closedOf}
 use Rattle.cut.specs.declared.subpath.Sub.{Sub}
 use Rattle.cut.specs.declared.subpath.Window.{Window}
 use Rattle.decimal.specs.Text.{wholeText}
-use Rattle.cached.specs.Near.{reachedIn}
+use Rattle.recutting.specs.Near.{reachedIn}
 use Rattle.printing.specs.Refused.{refusedText}
 
 -- ---- which places

@@ -93,7 +93,7 @@ pub extern "C" fn outline_split_segment(
     ensures numbers { λ _. ⌜ now (numbers .exit) ≡ callLists (lent (now (shapes .entry)) (now (anchors .entry)) (now (radii .entry)) (now (numbers .entry)) (now (flags .entry))) kind (split s a t) .numbers ⌝ }
     ensures flags { λ _. ⌜ now (flags .exit) ≡ callLists (lent (now (shapes .entry)) (now (anchors .entry)) (now (radii .entry)) (now (numbers .entry)) (now (flags .entry))) kind (split s a t) .flags ⌝ }
 {
-    let told = cached::split_segment(shapes, anchors, radii, kind, numbers, flags, s, a, t);
+    let told = cached_split::split_segment(shapes, anchors, radii, kind, numbers, flags, s, a, t);
     edited_told(told, answer)
 }
 

@@ -35,7 +35,7 @@ fn run_one(
     if which == 1 {
         return cached::set_radius(shapes, anchors, radii, kind, numbers, flags, s, i, x);
     }
-    cached::split_segment(shapes, anchors, radii, kind, numbers, flags, s, i, x)
+    cached_split::split_segment(shapes, anchors, radii, kind, numbers, flags, s, i, x)
 }
 
 // A word as an index.

@@ -17,7 +17,7 @@ use Rattle.session.specs.Session.{Carried, returned, after, afterAll, played, t
 use Rattle.session.specs.Demand.{Holds}
 use Rattle.session.proofs.Step.{Fine, step}
 use Rattle.session.proofs.Plays.{after-played}
-use Rattle.cached.specs.Near.{reachedIn}
+use Rattle.recutting.specs.Near.{reachedIn}
 use Rattle.replay.specs.Encoding.{subpathOf}
 use Rattle.reporting.specs.Codes.{windowIn}
 use Rattle.call_lines.specs.Lines.{subFrom, recutText}

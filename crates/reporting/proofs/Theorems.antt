@@ -20,7 +20,7 @@ use Rattle.job.specs.Order.{member}
 use Rattle.session.specs.Drawing.{Drawing, viewIn}
 use Rattle.session.specs.Edits.{Call, move, setRadius, split, editOf, placesOf}
 use Rattle.session.proofs.Effects.{faithful}
-use Rattle.cached.specs.Near.{reachedIn}
+use Rattle.recutting.specs.Near.{reachedIn}
 use Rattle.replay.specs.Encoding.{subpathOf}
 use Rattle.reporting.specs.Codes.{whichOf, indexOf, subLeft, windowIn}
 use Rattle.call_lines.specs.Lines.{passing, windowOf, subFrom, recutPlaces}

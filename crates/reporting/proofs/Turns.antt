@@ -23,7 +23,7 @@ use Rattle.session.proofs.Judging.{and-left, and-right, holds-says, accepted-sa
 use Rattle.session.proofs.Lents.{fits-same}
 use Rattle.session.proofs.Effects.{segment-sub, segment-there, sub-small}
 use Rattle.session.proofs.Splits.{segment-in, split-count, split-start, split-total}
-use Rattle.cached.specs.Near.{reachedIn}
+use Rattle.recutting.specs.Near.{reachedIn}
 use Rattle.replay.specs.Encoding.{subpathOf}
 use Rattle.reporting.specs.Codes.{whichOf, indexOf, subLeft, windowIn}
 use Rattle.call_lines.specs.Lines.{passing, windowOf, subFrom, recutPlaces, callText, callLine, Sound}

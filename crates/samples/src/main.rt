@@ -226,7 +226,7 @@ fn recuts_of_split(label: &[u8], word: u32) {
     let mut radii = [0.0f64; 11];
     let mut numbers = [0.0f64; 132];
     let mut flags = [0u32; 11];
-    let a = cached::split_segment(
+    let a = cached_split::split_segment(
         &mut shapes,
         &mut anchors,
         &mut radii,

@@ -35,6 +35,7 @@ use Rattle.assembly.proofs.Outlined.{outline-total, words-written}
 use Rattle.cut_calls.proofs.Handed.{outline-few}
 use Rattle.svg.specs.Path.{textOf}
 use Rattle.svg.specs.Call.{textRoom, left, toSvgDVerdict, toSvgDLeft}
+use Rattle.cache.proofs.Reached.{start-number, end-number}
 use Rattle.session.specs.Drawing.{Drawing, Lent}
 use Rattle.cache.specs.Cache.{cachedIn}
 use Rattle.cache.specs.Tests.{cacheFits}
@@ -45,7 +46,7 @@ use Rattle.session.specs.Demand.{Holds, Outlined}
 use Rattle.session.proofs.Judging.{and-left, and-right}
 use Rattle.session.proofs.Lents.{anchor-is}
 use Rattle.session.proofs.Step.{Fine}
-use Rattle.session.proofs.Outlines.{start-number, end-number, outline-plain, outline-cut, words-cut}
+use Rattle.session.proofs.Outlines.{outline-plain, outline-cut, words-cut}
 use Rattle.svg.proofs.Texts.{text-same}
 
 -- ---- every anchor of a list is good

@@ -1,63 +1,24 @@
 -- How many places an edit recuts: as many as lie within its steps in the subpath; and document 01's sample counts. Assumes nothing.
-use mathlib.Core.Path.{_≡_, refl, ap, _∙_}
-use mathlib.Core.Bool.{Bool, true, false}
+use mathlib.Core.Path.{_≡_, refl, _∙_}
+use mathlib.Core.Bool.{true}
 use mathlib.Core.List.{[], _∷_}
-use Prim.Native.Nat.{ℕ, zero, suc, _+_, _-_, _≤_, _<_, zero-le, suc-le-suc}
-use native.Mathlib.Nat.{add-zero}
-use native.Mathlib.Numerals.{add-one}
+use Prim.Native.Nat.{ℕ, _+_, _≤_}
 use native.Mathlib.Omega.{arith}
 use lib.Ieee.{Float}
 use Rattle.views.specs.Search.{count}
-use Rattle.views.proofs.Searches.{count-more, count-same}
 use Rattle.path.specs.declared.anchor.Anchor.{Anchor}
 use Rattle.path.specs.Shape.{countOf, closedOf, total, wordAt, start}
 use Rattle.path.proofs.Shapes.{total-in, has-says}
-use Rattle.cut.specs.View.{View}
 use Rattle.cut.specs.Subpath.{viewOf}
 use Rattle.cut.specs.Near.{gap, near, nearCount}
 use Rattle.cut.specs.Recut.{reached}
 use Rattle.cut_calls.specs.PlainCut.{subAt}
+use Rattle.cache.proofs.Reached.{reached-count}
 use Rattle.session.specs.Drawing.{Drawing, viewIn}
 use Rattle.session.specs.Edits.{Call, move, setRadius, split, moved, resized, splitAt, editOf}
 use Rattle.session.specs.Model.{recutCount}
-use Rattle.session.proofs.Splits.{reached-here, reached-below, reached-past, split-count, split-closed, split-total}
+use Rattle.session.proofs.Splits.{split-count, split-closed, split-total}
 use Rattle.session.proofs.Effects.{segment-sub, segment-there, sub-small}
-
--- ---- counts in parts
-count-none : (p : ℕ → Bool) (n : ℕ) → ((k : ℕ) → k < n → p k ≡ false) → count p n ≡ 0
-unfolding count
-count-none p zero h = refl
-count-none p (suc n) h = rw (h zero (suc-le-suc zero-le)) (count-none (λ k. p (suc k)) n (λ k l. h (suc k) (suc-le-suc l)))
-
-pub count-cong : (p q : ℕ → Bool) (n : ℕ) → ((k : ℕ) → k < n → p k ≡ q k) → count p n ≡ count q n
-unfolding count
-count-cong p q zero h = refl
-count-cong p q (suc n) h = rw (h zero (suc-le-suc zero-le), count-cong (λ k. p (suc k)) (λ k. q (suc k)) n (λ k l. h (suc k) (suc-le-suc l)))
-
-count-add : (p : ℕ → Bool) (a b : ℕ) → count p (a + b) ≡ count p a + count (λ i. p (a + i)) b
-count-add p a zero = rw (add-zero, count-none (λ i. p (a + i)) 0 (λ k l. absurd (omega arith)), add-zero)
-count-add p a (suc b) =
-    let x : a + suc b ≡ a + b + 1 = omega arith in
-    rw (x, ← add-one b) (step (p (a + b)) refl (count-add p a b))
-  where
-    step : (t : Bool) → p (a + b) ≡ t → count p (a + b) ≡ count p a + count (λ i. p (a + i)) b → count p (a + b + 1) ≡ count p a + count (λ i. p (a + i)) (b + 1)
-    step true e h = omega (arith, count-more p (a + b) e, count-more (λ i. p (a + i)) b e)
-    step false e h = omega (arith, count-same p (a + b) e, count-same (λ i. p (a + i)) b e)
-
--- ---- the places of a path that are recut are those of the subpath, each once
-pub reached-count : (v : View) (first reach at n : ℕ) → first + v .n ≤ n → count (reached v first reach at) n ≡ nearCount reach (v .n) (v .closed) at
-unfolding nearCount
-reached-count v first reach at n l =
-    let p = reached v first reach at in
-    let z = n - (first + v .n) in
-    let e : n ≡ first + (v .n + z) = omega arith in
-    let x : count p first ≡ 0 = count-none p first (λ k h. reached-below v first reach at k h) in
-    let y : count (λ k. p (first + k)) (v .n) ≡ count (near reach (v .n) (v .closed) at) (v .n) = count-cong _ _ (v .n) (λ k h. here k h) in
-    let w : count (λ k. p (first + (v .n + k))) z ≡ 0 = count-none _ z (λ k h. reached-past v first reach at (first + (v .n + k)) (omega arith)) in
-    ap (count p) e ∙ omega (arith, count-add p first (v .n + z), count-add (λ k. p (first + k)) (v .n) z)
-  where
-    here : (k : ℕ) → k < v .n → reached v first reach at (first + k) ≡ near reach (v .n) (v .closed) at k
-    here k h = reached-here v first reach at (first + k) (omega arith) (omega arith) ∙ ap (near reach (v .n) (v .closed) at) (omega arith)
 
 made-n : (d : Drawing) (s a : ℕ) (t : Float) → viewIn (splitAt d s a t) s .n ≡ countOf (wordAt (splitAt d s a t .shapes) s)
 unfolding viewIn viewOf subAt

@@ -19,6 +19,7 @@ use Rattle.cut.specs.Recut.{reached}
 use Rattle.cut.proofs.Steps.{next-lt}
 use Rattle.cut.proofs.Edits.{move-locality, radius-locality}
 use Rattle.cut_calls.specs.PlainCut.{subAt}
+use Rattle.cache.proofs.Reached.{reached-here}
 use Rattle.session.specs.Drawing.{Drawing, viewIn}
 use Rattle.cache.specs.Cache.{placeOfPath}
 use Rattle.edit.specs.Split.{shifted, splitAnchors, hasSegment}
@@ -26,7 +27,7 @@ use Rattle.session.specs.Edits.{Call, move, setRadius, split, Edit, move
 use Rattle.session.specs.Model.{recutCount}
 use Rattle.session.proofs.Shapes.{In, sub-in, sub-is}
 use Rattle.session.proofs.Judging.{and-left, and-right}
-use Rattle.session.proofs.Splits.{like-places, reached-here, segment-in, anchor-stood, split-stood, split-kept}
+use Rattle.session.proofs.Splits.{like-places, segment-in, anchor-stood, split-stood, split-kept}
 
 -- ---- references that are there
 pub segment-sub : (shapes : List ℕ) (s a : ℕ) → hasSegment shapes s a ≡ true → s < length shapes

@@ -1,13 +1,13 @@
 -- Verdicts: tests that agree give one verdict, and what an accepted call's tests say. Assumes nothing.
 use mathlib.Core.Path.{_≡_, refl, sym, _∙_}
 use mathlib.Core.Bool.{Bool, true, false, _&&_}
-use Prim.Native.Nat.{ℕ, zero, suc, _<_, zero-le, suc-le-suc}
+use Prim.Native.Nat.{ℕ, _<_}
 use native.Mathlib.Omega.{arith}
-use Rattle.views.specs.Search.{firstFalse}
 use Rattle.refusal.specs.Order.{Test, passes, fails, holds, judge, firstFailing, Verdict, accepted, refused, verdict, tests}
 use Rattle.path.proofs.Limits.{GoodBelow, search-to}
 use Rattle.call.specs.Tests.{places}
 use Rattle.call.proofs.Openings.{places-fail, places-pass}
+use Rattle.cache.proofs.Reached.{first-same}
 use mathlib.Core.Logic.{⊎-elim}
 
 -- ---- Booleans
@@ -38,11 +38,6 @@ module _ (good : ℕ → Bool) (n : ℕ) (after : Test) (h : places good n after
 
   pub places-then : after ≡ passes
   places-then = sym (places-pass good n after places-say) ∙ h
-
-first-same : (p q : ℕ → Bool) (n : ℕ) → ((k : ℕ) → k < n → p k ≡ q k) → firstFalse p n ≡ firstFalse q n
-unfolding firstFalse
-first-same p q zero h = refl
-first-same p q (suc n) h = rw (h zero (suc-le-suc zero-le), first-same (λ k. p (suc k)) (λ k. q (suc k)) n (λ k l. h (suc k) (suc-le-suc l)))
 
 pub places-same : (p q : ℕ → Bool) (n : ℕ) (a b : Test) → ((k : ℕ) → k < n → p k ≡ q k) → a ≡ b → places p n a ≡ places q n b
 unfolding places

@@ -6,42 +6,31 @@ use Prim.Native.Nat.{ℕ, zero, suc, _+_, _-_, _*_, _≤_, _<_}
 use native.Mathlib.Nat.{le-refl}
 use native.Mathlib.Omega.{arith}
 use lib.Dec.{leb}
-use lib.ListN.{length, List·getD-append}
-use lib.Seq.{getD-append-add}
-use lib.Ieee.{nan}
+use lib.ListN.{length}
 use Rattle.views.specs.View.{entry, tabulate}
 use Rattle.views.specs.Search.{count}
 use Rattle.views.proofs.Laws.{tabulate-cong}
 use Rattle.path.specs.Shape.{countOf, closedOf, total, wordAt, start, subOf}
 use Rattle.path.specs.Flat.{anchorAt, numbers}
-use Rattle.cut.specs.declared.places.Place.{Place}
 use Rattle.cut.specs.Subpath.{viewOf}
-use Rattle.cut.specs.Places.{isCut, placeAt, placeNumbers}
+use Rattle.cut.specs.Places.{isCut, placeAt}
 use Rattle.cut.specs.Rows.{flagOf}
 use Rattle.cut.specs.Outline.{cutCorners}
 use Rattle.cut.proofs.Outlines.{assembled-same, place-cut}
 use Rattle.assembly.specs.Assembled.{placeRead, subpathOutline, outlineUpTo, outlineOf, outlineShapes, outlineWords}
 use Rattle.assembly.proofs.Outlined.{outline-same, shapes-same, outline-length}
 use Rattle.cut_calls.specs.PlainCut.{subAt, cutUpTo, cutShape}
+use Rattle.cache.proofs.Reached.{start-number, end-number, count-cong}
 use Rattle.session.specs.Drawing.{Drawing, Lent, viewIn}
 use Rattle.cache.specs.Cache.{placeOfPath}
 use Rattle.cache.specs.Calls.{heldOutline}
 use Rattle.session.specs.Edits.{placesOf}
 use Rattle.session.specs.Outline.{plainCut, cutIn, assembledFrom}
 use Rattle.session.specs.Demand.{Holds}
-use Rattle.session.proofs.Counts.{count-cong}
 use Rattle.session.proofs.Lents.{anchor-is}
 use Rattle.session.proofs.Splits.{place-in}
 
 -- ---- twelve numbers and a flag are a place
-pub start-number : (p : Place) (i : ℕ) → i < 6 → entry (placeNumbers p) i ≡ entry (numbers (p .start)) i
-unfolding placeNumbers numbers
-start-number p i l = List·getD-append (numbers (p .start)) (numbers (p .end)) nan i l
-
-pub end-number : (p : Place) (i : ℕ) → entry (placeNumbers p) (6 + i) ≡ entry (numbers (p .end)) i
-unfolding placeNumbers numbers
-end-number p i = getD-append-add (numbers (p .start)) (numbers (p .end)) i nan
-
 flag-read : (b : Bool) → leb 2147483648 (flagOf b) ≡ b
 flag-read true = refl
 flag-read false = refl

@@ -32,12 +32,13 @@ use Rattle.cut.proofs.Outlines.{place-cut}
 use Rattle.cut_calls.specs.declared.kinds.Kind.the-variants.{Known}
 use Rattle.cut_calls.specs.CornerKinds.{kindOf}
 use Rattle.cut_calls.specs.PlainCut.{subAt}
+use Rattle.cache.proofs.Reached.{reached-here, reached-past}
 use Rattle.session.specs.Drawing.{Drawing, cornerKind, viewIn}
 use Rattle.cache.specs.Cache.{cachedNumbers, cachedFlags, cachedIn}
-use Rattle.session.specs.Edits.{Edit, moved, placesOf}
+use Rattle.session.specs.Edits.{Edit, placesOf}
 use Rattle.session.specs.Calls.{recutGood, numbersAfter, flagsAfter}
 use Rattle.session.proofs.Judging.{and-left, and-right}
-use Rattle.session.proofs.Splits.{place-in, Like, like-places, reached-here, reached-past}
+use Rattle.session.proofs.Splits.{place-in, Like, like-places}
 
 -- ---- a drawing in lists, seen by subpath: what `cut::recut` is given
 pub record Given (made : Drawing) (s : ℕ) (anchors radii : List Float) (kind : CornerKind) : Type 0 where

@@ -9,7 +9,7 @@ use lib.Dec.{ltb, eqb}
 use lib.ListN.{length, length-set}
 use lib.Seq.{getD-set-same, getD-set-other}
 use lib.Ieee.{Float}
-use borrow.Author.Tests.{ltb-true, lt-ltb, le-ltb, le-leb, lt-leb, eqb-true, ne-eqb}
+use borrow.Author.Tests.{ltb-true, le-leb, lt-leb, eqb-true, ne-eqb}
 use Rattle.views.proofs.Laws.{order, same}
 use Rattle.path.specs.declared.anchor.Anchor.{Anchor}
 use Rattle.path.specs.Shape.{countOf, closedOf, total, wordAt, start, subOf, isSegment, next}
@@ -24,6 +24,7 @@ use Rattle.cut.proofs.Locality.{locality, Inserted, Far, far-of, old-low, old-h
 use Rattle.cut_calls.specs.PlainCut.{subAt}
 use Rattle.session.specs.Drawing.{Drawing, viewIn}
 use Rattle.cache.specs.Cache.{placeOfPath}
+use Rattle.cache.proofs.Reached.{reached-here}
 use Rattle.edit.specs.Split.{shifted, splitAnchors, splitShapes}
 use Rattle.session.specs.Edits.{segmentStart, segmentEnd, splitRadii, splitAt, placesOf}
 use Rattle.session.proofs.Shapes.{In, sub-in, sub-is, sub-before, start-le, start-gt, total-more, count-next, closed-next}
@@ -51,20 +52,6 @@ like-places v w a i l = locality v w i l (record {
   radii = λ j h g. a .radii j h;
   kind = a .kinds i l;
 })
-
--- ---- places that are recut
-module _ (v : View) (first reach at k : ℕ) where
-  pub reached-here : first ≤ k → k < first + v .n → reached v first reach at k ≡ near reach (v .n) (v .closed) at (k - first)
-  unfolding reached
-  reached-here l h = rw (le-leb first k l, lt-ltb k (first + v .n) h)
-
-  pub reached-below : k < first → reached v first reach at k ≡ false
-  unfolding reached
-  reached-below l = rw (lt-leb first k l)
-
-  pub reached-past : first + v .n ≤ k → reached v first reach at k ≡ false
-  unfolding reached
-  reached-past l = rw (le-leb first k (omega arith), le-ltb k (first + v .n) l)
 
 -- ---- the segments of a subpath
 pub segment-cases : (n : ℕ) (c : Bool) (a : ℕ) → isSegment n c a ≡ true → (a + 1 < n) ⊎ ((c ≡ true) × (a + 1 ≡ n))

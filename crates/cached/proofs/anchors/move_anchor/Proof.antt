@@ -2,7 +2,7 @@
 use mathlib.Core.Path.{_≡_, sym, ap, _∙_}
 use borrow.Author.Needs.{needs}
 use Rattle.cached.specs.Opening.{lent, readyOf}
-use Rattle.cached.proofs.Limits.{within-good}
+use Rattle.cached.proofs.Edits.{within-good}
 use Rattle.cached.proofs.Moves.{move-closed}
 use Rattle.cached.proofs.anchors.move_anchor.Statement.{statement}
 use Rattle.cached.proofs.anchors.move_anchor.Tie as tie

@@ -11,7 +11,7 @@ use Rattle.decimal.specs.Text.{wholeText}
 use Rattle.decimal.specs.Put.{Put}
 use Rattle.decimal.proofs.Puts.{then, nothing, keeps}
 use Rattle.decimal.proofs.Digits.{whole-room}
-use Rattle.cached.specs.Near.{reachedIn}
+use Rattle.recutting.specs.Near.{reachedIn}
 use Rattle.call_lines.specs.Lines.{passing, recutPlaces, listed}
 use Rattle.call_lines.proofs.Places.{listed-none, listed-skip, listed-put}
 use Rattle.call_lines.proofs.lines.put_places.Statement.{statement}

@@ -1,0 +1,85 @@
+-- The places of a path within reach of an index of a subpath: which, how many, and the twelve numbers of a place. Assumes nothing.
+use mathlib.Core.Path.{_≡_, refl, ap, _∙_}
+use mathlib.Core.Bool.{Bool, true, false}
+use Prim.Native.Nat.{ℕ, zero, suc, _+_, _-_, _≤_, _<_, zero-le, suc-le-suc}
+use native.Mathlib.Nat.{add-zero}
+use native.Mathlib.Numerals.{add-one}
+use native.Mathlib.Omega.{arith}
+use lib.ListN.{List·getD-append}
+use lib.Seq.{getD-append-add}
+use lib.Ieee.{nan}
+use borrow.Author.Tests.{lt-ltb, le-ltb, le-leb, lt-leb}
+use Rattle.views.specs.View.{entry}
+use Rattle.views.specs.Search.{count, firstFalse}
+use Rattle.views.proofs.Searches.{count-more, count-same}
+use Rattle.path.specs.Flat.{numbers}
+use Rattle.cut.specs.declared.places.Place.{Place}
+use Rattle.cut.specs.View.{View}
+use Rattle.cut.specs.Near.{near, nearCount}
+use Rattle.cut.specs.Places.{placeNumbers}
+use Rattle.cut.specs.Recut.{reached}
+
+-- ---- a place's numbers: those of its start, then those of its end
+pub start-number : (p : Place) (i : ℕ) → i < 6 → entry (placeNumbers p) i ≡ entry (numbers (p .start)) i
+unfolding placeNumbers numbers
+start-number p i l = List·getD-append (numbers (p .start)) (numbers (p .end)) nan i l
+
+pub end-number : (p : Place) (i : ℕ) → entry (placeNumbers p) (6 + i) ≡ entry (numbers (p .end)) i
+unfolding placeNumbers numbers
+end-number p i = getD-append-add (numbers (p .start)) (numbers (p .end)) i nan
+
+-- ---- which places
+module _ (v : View) (first reach at k : ℕ) where
+  pub reached-here : first ≤ k → k < first + v .n → reached v first reach at k ≡ near reach (v .n) (v .closed) at (k - first)
+  unfolding reached
+  reached-here l h = rw (le-leb first k l, lt-ltb k (first + v .n) h)
+
+  pub reached-below : k < first → reached v first reach at k ≡ false
+  unfolding reached
+  reached-below l = rw (lt-leb first k l)
+
+  pub reached-past : first + v .n ≤ k → reached v first reach at k ≡ false
+  unfolding reached
+  reached-past l = rw (le-leb first k (omega arith), le-ltb k (first + v .n) l)
+
+-- ---- tests that agree find the same place, and as many
+pub first-same : (p q : ℕ → Bool) (n : ℕ) → ((k : ℕ) → k < n → p k ≡ q k) → firstFalse p n ≡ firstFalse q n
+unfolding firstFalse
+first-same p q zero h = refl
+first-same p q (suc n) h = rw (h zero (suc-le-suc zero-le), first-same (λ k. p (suc k)) (λ k. q (suc k)) n (λ k l. h (suc k) (suc-le-suc l)))
+
+pub count-cong : (p q : ℕ → Bool) (n : ℕ) → ((k : ℕ) → k < n → p k ≡ q k) → count p n ≡ count q n
+unfolding count
+count-cong p q zero h = refl
+count-cong p q (suc n) h = rw (h zero (suc-le-suc zero-le), count-cong (λ k. p (suc k)) (λ k. q (suc k)) n (λ k l. h (suc k) (suc-le-suc l)))
+
+-- ---- counts in parts
+count-none : (p : ℕ → Bool) (n : ℕ) → ((k : ℕ) → k < n → p k ≡ false) → count p n ≡ 0
+unfolding count
+count-none p zero h = refl
+count-none p (suc n) h = rw (h zero (suc-le-suc zero-le)) (count-none (λ k. p (suc k)) n (λ k l. h (suc k) (suc-le-suc l)))
+
+count-add : (p : ℕ → Bool) (a b : ℕ) → count p (a + b) ≡ count p a + count (λ i. p (a + i)) b
+count-add p a zero = rw (add-zero, count-none (λ i. p (a + i)) 0 (λ k l. absurd (omega arith)), add-zero)
+count-add p a (suc b) =
+    let x : a + suc b ≡ a + b + 1 = omega arith in
+    rw (x, ← add-one b) (step (p (a + b)) refl (count-add p a b))
+  where
+    step : (t : Bool) → p (a + b) ≡ t → count p (a + b) ≡ count p a + count (λ i. p (a + i)) b → count p (a + b + 1) ≡ count p a + count (λ i. p (a + i)) (b + 1)
+    step true e h = omega (arith, count-more p (a + b) e, count-more (λ i. p (a + i)) b e)
+    step false e h = omega (arith, count-same p (a + b) e, count-same (λ i. p (a + i)) b e)
+
+-- ---- the places of a path that are reached are those of the subpath, each once
+pub reached-count : (v : View) (first reach at n : ℕ) → first + v .n ≤ n → count (reached v first reach at) n ≡ nearCount reach (v .n) (v .closed) at
+unfolding nearCount
+reached-count v first reach at n l =
+    let p = reached v first reach at in
+    let z = n - (first + v .n) in
+    let e : n ≡ first + (v .n + z) = omega arith in
+    let x : count p first ≡ 0 = count-none p first (λ k h. reached-below v first reach at k h) in
+    let y : count (λ k. p (first + k)) (v .n) ≡ count (near reach (v .n) (v .closed) at) (v .n) = count-cong _ _ (v .n) (λ k h. here k h) in
+    let w : count (λ k. p (first + (v .n + k))) z ≡ 0 = count-none _ z (λ k h. reached-past v first reach at (first + (v .n + k)) (omega arith)) in
+    ap (count p) e ∙ omega (arith, count-add p first (v .n + z), count-add (λ k. p (first + k)) (v .n) z)
+  where
+    here : (k : ℕ) → k < v .n → reached v first reach at (first + k) ≡ near reach (v .n) (v .closed) at k
+    here k h = reached-here v first reach at (first + k) (omega arith) (omega arith) ∙ ap (near reach (v .n) (v .closed) at) (omega arith)

@@ -1,0 +1,27 @@
+-- `cached_split::writing::write_split` meets its contract: each list is one call's. Assumes nothing.
+use borrow.Author.Needs.{needs}
+use Rattle.cached_split.proofs.writing.write_split.Statement.{statement}
+use Rattle.cached_split.proofs.writing.write_split.Tie as tie
+
+returns : tie.Need-returns
+returns c =
+    let e = c .before .before .before .before .write-cache .ensures in
+    (c .before .before .before .before .before .before .before .before .before .before .before .before .before .before .before .before .before .count-up .ensures, (c .before .before .before .before .before .before .before .before .before .before .before .before .before .copy .ensures, (c .before .before .before .before .before .before .before .before .before .copy2 .ensures, (e .0, e .1))))
+
+pub write-split-spec : {M : Type 1} → statement M
+write-split-spec =
+    tie.close
+    (tie.spec
+    (λ c κs. search needs)
+    (λ c. search needs)
+    (λ c. search needs)
+    (λ c κs. search needs)
+    (λ c. search needs)
+    (λ c κs. search needs)
+    (λ c κs. search needs)
+    (λ c. search needs)
+    (λ c. search needs)
+    (λ c. search needs)
+    (λ c. search needs)
+    (λ c. search needs)
+    returns)

@@ -1,0 +1,37 @@
+-- A split of a drawing in its lists, step by step: what it rests on once 7, 5, 6 and 10 are passed, and what its parts leave. Assumes nothing.
+use Prim.Native.Nat.{ℕ, _+_, _<_}
+use mathlib.Core.Path.{_≡_}
+use mathlib.Core.Bool.{true}
+use mathlib.Core.List.{List}
+use lib.ListN.{getD}
+use lib.Ieee.{Float}
+use Rattle.views.specs.View.{overwrite}
+use Rattle.real.specs.Limit.{inLimit}
+use Rattle.path.specs.declared.anchor.Anchor.{Anchor}
+use Rattle.path.specs.declared.limit.Found.{Found}
+use Rattle.path.specs.Limit.{firstBad}
+use Rattle.corner.specs.declared.cut.CornerKind.{CornerKind}
+use Rattle.cut.specs.declared.subpath.Sub.{Sub}
+use Rattle.cut.specs.Near.{old}
+use Rattle.edit.specs.Split.{halves, shifted, putsWithin, hasSegment}
+use Rattle.session.specs.Drawing.{Lent}
+use Rattle.cached.specs.declared.opening.Ready.the-variants.{Known}
+use Rattle.cached.specs.Opening.{readyOf}
+
+-- a drawing of n anchors and its cache, one segment of it, and room for one anchor more
+pub record Begun (l : Lent) (kind s a : ℕ) (t : Float) (n : ℕ) (way : CornerKind) : Type 0 where
+  pub ready : readyOf l kind (inLimit t) ≡ Known n way
+  pub segment : hasSegment (l .shapes) s a ≡ true
+  pub few : n < 512
+
+-- a subpath with one anchor more
+abbrev pub grown : Sub → Sub
+grown sub = record { first = sub .first; n = sub .n + 1; closed = sub .closed }
+
+-- the first of n places whose anchor, put there by a split between a and b, breaks the limit
+unfoldable pub putsFound : (ℕ → Anchor) → ℕ → ℕ → Float → ℕ → Found
+putsFound f a b t n = firstBad (putsWithin (halves (f a) (f b) t) a (shifted a b)) n
+
+-- the flags of n places, those after a one further on
+unfoldable pub shiftedFlags : List ℕ → ℕ → ℕ → List ℕ
+shiftedFlags fs a n = overwrite (n + 1) (λ k. getD fs (old a k) 0) fs
