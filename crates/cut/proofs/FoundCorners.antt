@@ -14,11 +14,11 @@ use Rattle.cubic.specs.Cubic.{CEPS}
 use Rattle.path.specs.declared.anchor.Anchor.{Anchor}
 use Rattle.path.specs.Anchor.{isSmooth}
 use Rattle.path.specs.Shape.{prev, next}
-use Rattle.corner.specs.declared.side.Side.{Side}
-use Rattle.corner.specs.declared.side.Direction.{Direction}
-use Rattle.corner.specs.declared.side.Direction.the-variants.{Along, Nowhere}
+use Rattle.side.specs.declared.side.Side.{Side}
+use Rattle.side.specs.declared.side.Direction.{Direction}
+use Rattle.side.specs.declared.side.Direction.the-variants.{Along, Nowhere}
 use Rattle.corner.specs.declared.corner.Corner.{Corner}
-use Rattle.corner.specs.Side.{direction, lengthOf}
+use Rattle.side.specs.Side.{direction, lengthOf}
 use Rattle.corner.specs.Corner.{1e-6, noCorner, sideU, sideV, sin, sharp, meet, between, cornerOf, maxRadiusBeside}
 use Rattle.cut.specs.declared.rows.Row.{Row}
 use Rattle.cut.specs.View.{View, arrives, leaves}

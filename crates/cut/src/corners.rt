@@ -18,7 +18,7 @@ use crate::subpath::corner_at;
 use crate::subpath::near;
 use crate::subpath::span;
 use corner::Corner;
-use corner::Side;
+use side::Side;
 
 // How far along its sides the cut that is asked for would reach, where this radius is set: a negative one counts as 0.
 fn asked(c: Corner, radius: f64) -> f64
