@@ -23,8 +23,8 @@ use Rattle.hit.specs.declared.anchors.HitAnchor.{HitAnchor}
 use Rattle.hit.specs.declared.anchors.HitAnchor.the-variants as anchor
 use Rattle.hit.specs.declared.segments.HitSegment.{HitSegment}
 use Rattle.hit.specs.declared.segments.HitSegment.the-variants as segment
-use Rattle.hit.specs.declared.boxes.Extent.{Extent}
-use Rattle.hit.specs.declared.boxes.Extent.the-variants as extent
+use Rattle.bounds.specs.declared.boxes.Extent.{Extent}
+use Rattle.bounds.specs.declared.boxes.Extent.the-variants as extent
 use Rattle.job.specs.declared.call.Job.{Job}
 use Rattle.job.specs.declared.call.Job.the-variants as job
 use Rattle.cubic_calls.specs.declared.answers.Number.the-variants as number

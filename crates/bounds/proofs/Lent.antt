@@ -42,8 +42,8 @@ use Rattle.geom.proofs.point.P as S
 use Rattle.geom.proofs.point.P.Laws as S′
 use Rattle.geom.proofs.bounds.Bounds as T
 use Rattle.geom.proofs.bounds.Bounds.Laws as T′
-use Rattle.hit.proofs.growing.add as add
-use Rattle.hit.proofs.growing.add.Symbol.{name as #add}
+use Rattle.bounds.proofs.growing.add as add
+use Rattle.bounds.proofs.growing.add.Symbol.{name as #add}
 
 -- the machine value of a box, and of a point
 abbrev pub box : Bounds → Val

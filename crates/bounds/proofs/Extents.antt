@@ -14,9 +14,9 @@ use Rattle.path.specs.Shape.{total}
 use Rattle.call.specs.declared.opening.Opened.the-variants as answered
 use Rattle.call.specs.Tests.{openedPath}
 use Rattle.call.proofs.Openings.{PathOpens, path-refused}
-use Rattle.hit.specs.declared.boxes.Extent.the-variants.{Refused, Empty, Box}
-use Rattle.hit.specs.Points.{boxOf}
-use Rattle.hit.specs.Calls.{boxIn, boundsVerdict, extentAnswer, boundsAnswer}
+use Rattle.bounds.specs.declared.boxes.Extent.the-variants.{Refused, Empty, Box}
+use Rattle.bounds.specs.Points.{boxOf}
+use Rattle.bounds.specs.Calls.{boxIn, boundsVerdict, extentAnswer, boundsAnswer}
 
 module _ (shapes : List ℕ) (anchors : List Float) where
   path-fails : (c k : ℕ) → openedPath 1024 shapes anchors ≡ answered.Refused c k → boundsVerdict shapes anchors ≡ refused c k

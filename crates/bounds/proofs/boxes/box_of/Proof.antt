@@ -1,4 +1,4 @@
--- `hit::boxes::box_of` meets its contract: after s subpaths the box is grown by those. Assumes nothing.
+-- `bounds::boxes::box_of` meets its contract: after s subpaths the box is grown by those. Assumes nothing.
 use Prim.Native.Nat.{_-_, _≤_, _<_}
 use mathlib.Core.Path.{_≡_, refl, sym, _∙_}
 use native.Mathlib.Omega.{arith}
@@ -7,10 +7,10 @@ use lib.ListN.{length, take}
 use Rattle.geom.specs.Box.{noPoint}
 use Rattle.path.specs.Shape.{start}
 use Rattle.path.proofs.Shapes.{total-next, total-in}
-use Rattle.hit.specs.Points.{grownBy, pointsFrom}
-use Rattle.hit.proofs.Growths.{path-none, path-more, path-done}
-use Rattle.hit.proofs.boxes.box_of.Statement.{statement}
-use Rattle.hit.proofs.boxes.box_of.Tie as tie
+use Rattle.bounds.specs.Points.{grownBy, pointsFrom}
+use Rattle.bounds.proofs.Growths.{path-none, path-more, path-done}
+use Rattle.bounds.proofs.boxes.box_of.Statement.{statement}
+use Rattle.bounds.proofs.boxes.box_of.Tie as tie
 
 abbrev Inv-loop : tie.InvT-loop
 Inv-loop shapes anchors r₀ k₀ s₀ s-end r k s =

@@ -1,13 +1,13 @@
--- `hit::boxes::add_segments` meets its contract: after a anchors the box is grown by the segments that start there. Assumes nothing.
+-- `bounds::boxes::add_segments` meets its contract: after a anchors the box is grown by the segments that start there. Assumes nothing.
 use Prim.Native.Nat.{_-_, _≤_}
 use mathlib.Core.Path.{_≡_, refl, sym, _∙_}
 use native.Mathlib.Omega.{arith}
 use borrow.Author.Needs.{needs}
 use borrow.Author.Tests.{not-true, not-false}
-use Rattle.hit.specs.Points.{grownBy, segmentPoints}
-use Rattle.hit.proofs.Growths.{segments-none, segments-skip, segments-more}
-use Rattle.hit.proofs.boxes.add_segments.Statement.{statement}
-use Rattle.hit.proofs.boxes.add_segments.Tie as tie
+use Rattle.bounds.specs.Points.{grownBy, segmentPoints}
+use Rattle.bounds.proofs.Growths.{segments-none, segments-skip, segments-more}
+use Rattle.bounds.proofs.boxes.add_segments.Statement.{statement}
+use Rattle.bounds.proofs.boxes.add_segments.Tie as tie
 
 abbrev Inv-loop : tie.InvT-loop
 Inv-loop anchors k n closed r₀ a₀ r a = (a ≤ n) × (r ≡ grownBy r₀ (segmentPoints anchors k n closed a))

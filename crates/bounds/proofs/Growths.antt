@@ -16,10 +16,9 @@ use Rattle.geom.specs.declared.point.P.{P}
 use Rattle.geom.specs.declared.bounds.Bounds.{Bounds}
 use Rattle.geom.specs.Box.{noPoint, grown}
 use Rattle.cubic.specs.Sample.{straight, steps, stepAt, sampleCount}
-use Rattle.path.specs.Flat.{anchorAt}
+use Rattle.path.specs.Flat.{anchorAt, curveOf}
 use Rattle.path.specs.Shape.{countOf, closedOf, total, wordAt, start, isSegment}
-use Rattle.hit.specs.Steps.{curveOf}
-use Rattle.hit.specs.Points.{grownBy, curvePoints, segmentPoints, subpathPoints, pointsFrom, boxOf}
+use Rattle.bounds.specs.Points.{grownBy, curvePoints, segmentPoints, subpathPoints, pointsFrom, boxOf}
 
 pub grown-append : (b : Bounds) (ps qs : List P) → grownBy b (ps ++ qs) ≡ grownBy (grownBy b ps) qs
 unfolding grownBy

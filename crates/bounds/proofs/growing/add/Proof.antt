@@ -1,4 +1,4 @@
--- `hit::growing::add` meets its contract: a walk of its MIR, by hand. The borrow is opened, the box is copied out and passed to `Bounds::add`, of which the proof knows only that it meets its contract, what comes back is stored, and the borrow is closed at it.
+-- `bounds::growing::add` meets its contract: a walk of its MIR, by hand. The borrow is opened, the box is copied out and passed to `Bounds::add`, of which the proof knows only that it meets its contract, what comes back is stored, and the borrow is closed at it.
 -- The borrow stays open over the call: `Bounds::add` has no lifetime, and what stands beside its call is as it was.
 -- Of the structs only the laws of the modules that `rattle check` makes are used, and no field is named.
 -- Assumes nothing.
@@ -48,10 +48,10 @@ use Rattle.geom.proofs.bounds.Bounds.add as grown
 use Rattle.geom.proofs.bounds.Bounds.add.Symbol as grown-def
 use Rattle.geom.proofs.bounds.Bounds.add.Symbol.{name as #grown}
 use Rattle.geom.proofs.bounds.Bounds.add.Met as grown-thm
-use Rattle.hit.proofs.growing.add.Key.{name as #add}
-use Rattle.hit.proofs.growing.add as f
-use Rattle.hit.proofs.growing.add.Statement as stated
-use Rattle.hit.proofs.growing.add.Code as code
+use Rattle.bounds.proofs.growing.add.Key.{name as #add}
+use Rattle.bounds.proofs.growing.add as f
+use Rattle.bounds.proofs.growing.add.Statement as stated
+use Rattle.bounds.proofs.growing.add.Code as code
 
 abbrev Arg : Type 0
 Arg = RefT Bounds × (P × Unit {0})

@@ -1,4 +1,4 @@
--- `hit::growing::step` meets its contract: a walk of its MIR, by hand. A local is made, lent by `&mut` to `add`, which is one step (`Lent.antt`'s `calls-add`), and read again.
+-- `bounds::growing::step` meets its contract: a walk of its MIR, by hand. A local is made, lent by `&mut` to `add`, which is one step (`Lent.antt`'s `calls-add`), and read again.
 -- Of the structs only the laws of the modules that `rattle check` makes are used, and no field is named.
 -- Assumes nothing.
 use mathlib.Core.Path.{_≡_, refl}
@@ -35,14 +35,14 @@ use Rattle.geom.proofs.point.P as S
 use Rattle.geom.proofs.point.P.Laws as S′
 use Rattle.geom.proofs.bounds.Bounds as T
 use Rattle.geom.proofs.bounds.Bounds.Laws as T′
-use Rattle.hit.proofs.Lent.{box, point, unit-typed, Lies, lies-in, lies-out, Add, calls-add}
-use Rattle.hit.proofs.growing.add.Symbol as add-def
-use Rattle.hit.proofs.growing.add.Symbol.{name as #add}
-use Rattle.hit.proofs.growing.add.Met as add-thm
-use Rattle.hit.proofs.growing.step.Key.{name as #step}
-use Rattle.hit.proofs.growing.step as f
-use Rattle.hit.proofs.growing.step.Statement as stated
-use Rattle.hit.proofs.growing.step.Code as code
+use Rattle.bounds.proofs.Lent.{box, point, unit-typed, Lies, lies-in, lies-out, Add, calls-add}
+use Rattle.bounds.proofs.growing.add.Symbol as add-def
+use Rattle.bounds.proofs.growing.add.Symbol.{name as #add}
+use Rattle.bounds.proofs.growing.add.Met as add-thm
+use Rattle.bounds.proofs.growing.step.Key.{name as #step}
+use Rattle.bounds.proofs.growing.step as f
+use Rattle.bounds.proofs.growing.step.Statement as stated
+use Rattle.bounds.proofs.growing.step.Code as code
 
 abbrev stayed : Stays (f.ended .signature .params) (f.ended .kept)
 stayed = (stay-none (λ _. T.the-row) yes, (stay-none (λ _. S.the-row) yes, tt))
@@ -110,4 +110,4 @@ step-spec 𝓤 H 𝓜 𝓖 𝓡 =
     entered 𝓤 H (tripleOf 𝓤 H (𝓖 .A) f.signature (f.spec 𝓤 H (𝓖 .A) (𝓜 .mem) (𝓡 .run)))
     (tables 𝓤 H 𝓜 𝓡 code.env .C) (tables 𝓤 H 𝓜 𝓡 code.env .Λ) #step code.function (code.unfolded 𝓤 H 𝓜 𝓡)
     (meets 𝓤 H (𝓖 .A) (givenOf 𝓤 H 𝓜 𝓖) (𝓜 .mem) (𝓡 .run) (tablesOf 𝓤 H 𝓜 (tables 𝓤 H 𝓜 𝓡 code.env))
-    (cited 𝓤 H (Add 𝓤 H (𝓖 .A) (𝓜 .mem) (𝓡 .run)) 𝓜 𝓡 code.env #add add-def.routine code.calls-hit·growing·add (add-thm.met 𝓤 H 𝓜 𝓖 𝓡)))
+    (cited 𝓤 H (Add 𝓤 H (𝓖 .A) (𝓜 .mem) (𝓡 .run)) 𝓜 𝓡 code.env #add add-def.routine code.calls-bounds·growing·add (add-thm.met 𝓤 H 𝓜 𝓖 𝓡)))

@@ -1,9 +1,9 @@
--- `hit::boxes::box_in` meets its contract. Assumes nothing.
+-- `bounds::boxes::box_in` meets its contract. Assumes nothing.
 use mathlib.Core.Path.{sym, _∙_}
 use borrow.Author.Tests.{not-true, not-false}
-use Rattle.hit.specs.Calls.{boxIn}
-use Rattle.hit.proofs.boxes.box_in.Statement.{statement}
-use Rattle.hit.proofs.boxes.box_in.Tie as tie
+use Rattle.bounds.specs.Calls.{boxIn}
+use Rattle.bounds.proofs.boxes.box_in.Statement.{statement}
+use Rattle.bounds.proofs.boxes.box_in.Tie as tie
 
 returns : tie.Need-returns
 unfolding boxIn

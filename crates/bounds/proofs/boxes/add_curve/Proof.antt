@@ -1,4 +1,4 @@
--- `hit::boxes::add_curve` meets its contract: after k points the box is grown by those. Assumes nothing.
+-- `bounds::boxes::add_curve` meets its contract: after k points the box is grown by those. Assumes nothing.
 use Prim.Native.Nat.{_+_, _-_, _≤_}
 use mathlib.Core.Path.{_≡_, refl}
 use native.Mathlib.Omega.{arith}
@@ -6,10 +6,10 @@ use borrow.Author.Needs.{needs}
 use Rattle.views.specs.View.{tabulate}
 use Rattle.cubic.specs.Sample.{steps, stepAt}
 use Rattle.cubic.proofs.StepCounts.{steps-small}
-use Rattle.hit.specs.Points.{grownBy}
-use Rattle.hit.proofs.Growths.{points-none, points-more, curve-done, sixteen}
-use Rattle.hit.proofs.boxes.add_curve.Statement.{statement}
-use Rattle.hit.proofs.boxes.add_curve.Tie as tie
+use Rattle.bounds.specs.Points.{grownBy}
+use Rattle.bounds.proofs.Growths.{points-none, points-more, curve-done, sixteen}
+use Rattle.bounds.proofs.boxes.add_curve.Statement.{statement}
+use Rattle.bounds.proofs.boxes.add_curve.Tie as tie
 
 abbrev Inv-loop : tie.InvT-loop
 Inv-loop c r₀ m k₀ k-end r k = (k ≤ m + 1) × (k-end ≡ m + 1) × (m ≤ 16) × (r ≡ grownBy r₀ (tabulate k (stepAt c m)))

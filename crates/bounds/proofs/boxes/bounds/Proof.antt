@@ -1,12 +1,12 @@
--- `hit::boxes::bounds` meets its contract: each answer cites its outcome. Assumes nothing.
+-- `bounds::boxes::bounds` meets its contract: each answer cites its outcome. Assumes nothing.
 use mathlib.Core.Path.{_≡_, sym, _∙_}
 use native.Mathlib.Omega.{arith}
 use borrow.Author.Needs.{needs}
 use borrow.Author.Tests.{not-true, not-false}
 use Rattle.call.proofs.Openings.{PathOpens, path-opens}
-use Rattle.hit.proofs.Extents.{bounds-refused, bounds-empty, bounds-out, bounds-box}
-use Rattle.hit.proofs.boxes.bounds.Statement.{statement}
-use Rattle.hit.proofs.boxes.bounds.Tie as tie
+use Rattle.bounds.proofs.Extents.{bounds-refused, bounds-empty, bounds-out, bounds-box}
+use Rattle.bounds.proofs.boxes.bounds.Statement.{statement}
+use Rattle.bounds.proofs.boxes.bounds.Tie as tie
 
 opens : (c : tie.After-path2) → let a = c .before .before .before .before .before .args in PathOpens 1024 (a .shapes .now) (a .anchors .now) (c .path2 .given .0 .0)
 opens c = path-opens _ _ _ _ (sym (c .before .before .open-path .ensures) ∙ c .path2 .given .1)

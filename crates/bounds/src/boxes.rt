@@ -3,9 +3,8 @@ ghost use mathlib.Core.Path.{_≡_};
 ghost use Prim.Native.Nat.{_+_, _*_, _≤_};
 ghost use lib.ListN.{length};
 ghost use Rattle.path.specs.Shape.{total};
-ghost use Rattle.hit.specs.Points.{grownBy, curvePoints, subpathPoints, segmentPoints, boxOf};
-ghost use Rattle.hit.specs.Calls.{boxIn, boundsAnswer};
-use crate::chords::curve_at;
+ghost use Rattle.bounds.specs.Points.{grownBy, curvePoints, subpathPoints, segmentPoints, boxOf};
+ghost use Rattle.bounds.specs.Calls.{boxIn, boundsAnswer};
 use crate::growing::step;
 use call::Opened;
 use geom::Bounds;
@@ -40,7 +39,7 @@ fn add_segments(b: Bounds, anchors: &[f64], k: usize, n: usize, closed: bool) ->
         if !path::has_segment(n, closed, a) {
             continue;
         }
-        r = add_curve(r, curve_at(anchors, k, n, a));
+        r = add_curve(r, path::curve_at(anchors, k, n, a));
     }
     r
 }

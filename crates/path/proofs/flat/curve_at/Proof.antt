@@ -1,11 +1,11 @@
--- `hit::chords::curve_at` meets its contract. Assumes nothing.
+-- `path::flat::curve_at` meets its contract. Assumes nothing.
 use Prim.Native.Nat.{_<_}
 use native.Mathlib.Omega.{arith}
 use borrow.Author.Needs.{needs}
-use Rattle.hit.specs.Steps.{curveOf}
-use Rattle.hit.proofs.Offsets.{next-below}
-use Rattle.hit.proofs.chords.curve_at.Statement.{statement}
-use Rattle.hit.proofs.chords.curve_at.Tie as tie
+use Rattle.path.specs.Flat.{curveOf}
+use Rattle.path.proofs.Shapes.{next-below}
+use Rattle.path.proofs.flat.curve_at.Statement.{statement}
+use Rattle.path.proofs.flat.curve_at.Tie as tie
 
 -- the next anchor is one of the subpath's
 below : (c : tie.After-next) → c .next .result < c .before .before .before .args .n

@@ -1,11 +1,11 @@
--- `hit::boxes::add_subpath` meets its contract. Assumes nothing.
+-- `bounds::boxes::add_subpath` meets its contract. Assumes nothing.
 use mathlib.Core.Path.{_≡_, ap}
 use native.Mathlib.Omega.{arith}
 use borrow.Author.Needs.{needs}
 use Rattle.path.specs.declared.anchor.Anchor.{Anchor}
-use Rattle.hit.proofs.Growths.{subpath-empty, subpath-more}
-use Rattle.hit.proofs.boxes.add_subpath.Statement.{statement}
-use Rattle.hit.proofs.boxes.add_subpath.Tie as tie
+use Rattle.bounds.proofs.Growths.{subpath-empty, subpath-more}
+use Rattle.bounds.proofs.boxes.add_subpath.Statement.{statement}
+use Rattle.bounds.proofs.boxes.add_subpath.Tie as tie
 
 returns : tie.Need-returns
 returns c = subpath-empty _ _ _ _ _ (c .if1 .taken)

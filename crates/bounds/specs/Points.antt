@@ -8,9 +8,8 @@ use Rattle.geom.specs.declared.point.P.{P}
 use Rattle.geom.specs.declared.bounds.Bounds.{Bounds}
 use Rattle.geom.specs.Box.{noPoint, grown}
 use Rattle.cubic.specs.Sample.{steps, stepAt, sampleCount}
-use Rattle.path.specs.Flat.{anchorAt}
+use Rattle.path.specs.Flat.{anchorAt, curveOf}
 use Rattle.path.specs.Shape.{countOf, closedOf, isSegment}
-use Rattle.hit.specs.Steps.{curveOf}
 
 -- a box grown by points, one at a time
 unfoldable pub grownBy : Bounds → List P → Bounds

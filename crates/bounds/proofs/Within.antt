@@ -12,8 +12,8 @@ use Rattle.geom.specs.declared.point.P.{P}
 use Rattle.geom.specs.declared.bounds.Bounds.{Bounds}
 use Rattle.geom.specs.Box.{noPoint, grown}
 use Rattle.geom.specs.Flat.{pt}
-use Rattle.hit.specs.Points.{grownBy, pointsFrom, boxOf}
-use Rattle.hit.proofs.Orders.{not-below, le-trans, le-number, number-le, le-self, lt-is-le}
+use Rattle.bounds.specs.Points.{grownBy, pointsFrom, boxOf}
+use Rattle.real.proofs.Orders.{not-below, le-trans, le-number, number-le, le-self, lt-is-le}
 
 -- ---- the stand-ins
 min-second : (a x : Float) → isNan x ≡ false → le (min a x) x ≡ true
