@@ -17,8 +17,8 @@ use Rattle.replay.specs.declared.calls.Replayed.{Replayed}
 use Rattle.replay.specs.declared.calls.Replayed.the-variants as replayed
 use Rattle.corner_calls.specs.declared.calls.Corners.{Corners}
 use Rattle.corner_calls.specs.declared.calls.Corners.the-variants as corners
-use Rattle.svg.specs.declared.calls.Answer.{Answer}
-use Rattle.svg.specs.declared.calls.Answer.the-variants as text
+use Rattle.svg_calls.specs.declared.calls.Answer.{Answer}
+use Rattle.svg_calls.specs.declared.calls.Answer.the-variants as text
 use Rattle.hit.specs.declared.anchors.HitAnchor.{HitAnchor}
 use Rattle.hit.specs.declared.anchors.HitAnchor.the-variants as anchor
 use Rattle.hit.specs.declared.segments.HitSegment.{HitSegment}

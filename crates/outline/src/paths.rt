@@ -1,11 +1,11 @@
 // The exported calls on paths.
 ghost use mathlib.Core.Path.{_≡_};
 ghost use Rattle.cut_calls.specs.Calls.{cutAnswer, cutShapesLeft, cutAnchorsLeft};
-ghost use Rattle.svg.specs.Call.{toSvgDAnswer, toSvgDLeft, writeNumAnswer, writeNumLeft};
+ghost use Rattle.svg_calls.specs.Call.{toSvgDAnswer, toSvgDLeft, writeNumAnswer, writeNumLeft};
 ghost use Rattle.outline.specs.Answers.{textCode, textWords, outlineCode, outlineWords};
 use crate::tell;
 use call::Outline;
-use svg::Answer;
+use svg_calls::Answer;
 
 #[no_mangle]
 pub extern "C" fn outline_cut_corners(
@@ -54,7 +54,7 @@ pub extern "C" fn outline_to_svg_d(
     ensures answer { λ _. ⌜ now (answer .exit) ≡ textWords (toSvgDAnswer (now (shapes .entry)) (now (anchors .entry)) (now (out .entry))) ⌝ }
     ensures out { λ _. ⌜ now (out .exit) ≡ toSvgDLeft (now (shapes .entry)) (now (anchors .entry)) (now (out .entry)) ⌝ }
 {
-    let a = svg::to_svg_d(shapes, anchors, out);
+    let a = svg_calls::to_svg_d(shapes, anchors, out);
     text_told(a, answer)
 }
 
@@ -64,7 +64,7 @@ pub extern "C" fn outline_write_num(x: f64, out: &mut [u8], answer: &mut [u64; 4
     ensures answer { λ _. ⌜ now (answer .exit) ≡ textWords (writeNumAnswer x (now (out .entry))) ⌝ }
     ensures out { λ _. ⌜ now (out .exit) ≡ writeNumLeft x (now (out .entry)) ⌝ }
 {
-    let a = svg::write_num(x, out);
+    let a = svg_calls::write_num(x, out);
     text_told(a, answer)
 }
 

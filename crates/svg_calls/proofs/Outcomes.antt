@@ -26,11 +26,11 @@ use Rattle.refusal.proofs.Verdicts.{holds-true, holds-false, in-order, by-argum
 use Rattle.call.specs.declared.opening.Opened.the-variants as opened
 use Rattle.call.specs.Tests.{pathFits, pathLimit, openedPath}
 use Rattle.call.proofs.Openings.{PathOpens, path-refused}
-use Rattle.svg.specs.declared.calls.Answer.the-variants.{Refused, Accepted}
-use Rattle.svg.specs.ReadsAs.{ReadsAs}
+use Rattle.svg_calls.specs.declared.calls.Answer.the-variants.{Refused, Accepted}
+use Rattle.svg_grammar.specs.ReadsAs.{ReadsAs}
 use Rattle.svg.specs.Path.{commandsOf, textOf}
 use Rattle.svg.specs.Pieces.{Placed}
-use Rattle.svg.specs.Call.{
+use Rattle.svg_calls.specs.Call.{
   textRoom,
   answer,
   left,

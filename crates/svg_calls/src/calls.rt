@@ -4,11 +4,11 @@ ghost use Prim.Native.Nat.{ℕ, _≤_, _<_};
 ghost use lib.ListN.{length};
 ghost use Rattle.path.specs.Shape.{total};
 ghost use Rattle.path.specs.Flat.{anchorAt};
 ghost use Rattle.svg.specs.Path.{textOf};
 ghost use Rattle.svg.specs.Pieces.{Placed};
-ghost use Rattle.svg.specs.Call.{toSvgDAnswer, toSvgDLeft, writeNumAnswer, writeNumLeft, handedAnswer, handedLeft};
-use crate::outline::put_path;
+ghost use Rattle.svg_calls.specs.Call.{toSvgDAnswer, toSvgDLeft, writeNumAnswer, writeNumLeft, handedAnswer, handedLeft};
 use call::Opened;
+use svg::put_path;
 
 // A refusal's number and place, or the text's length.
 pub enum Answer {

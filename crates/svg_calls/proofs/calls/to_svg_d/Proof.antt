@@ -1,10 +1,10 @@
--- `svg::calls::to_svg_d` meets its contract: the path is opened or refused, and only the room is left to test. Assumes nothing.
+-- `svg_calls::calls::to_svg_d` meets its contract: the path is opened or refused, and only the room is left to test. Assumes nothing.
 use mathlib.Core.Path.{sym, _∙_}
 use borrow.Author.Needs.{needs}
 use Rattle.call.proofs.Openings.{PathOpens, path-opens}
-use Rattle.svg.proofs.Outcomes.{placed, not-opened, as-handed}
-use Rattle.svg.proofs.calls.to_svg_d.Statement.{statement}
-use Rattle.svg.proofs.calls.to_svg_d.Tie as tie
+use Rattle.svg_calls.proofs.Outcomes.{placed, not-opened, as-handed}
+use Rattle.svg_calls.proofs.calls.to_svg_d.Statement.{statement}
+use Rattle.svg_calls.proofs.calls.to_svg_d.Tie as tie
 
 opens : (c : tie.After-opened2) → let a = c .before .before .before .before .before .before .args in PathOpens 1024 (a .shapes .now) (a .anchors .now) (c .opened2 .given .0 .0)
 opens c = path-opens _ _ _ _ (sym (c .before .before .open-path .ensures) ∙ c .opened2 .given .1)

@@ -5,7 +5,7 @@ use mathlib.Core.List.{List, [], _∷_}
 use mathlib.Core.Option.{none, some}
 use Prim.Native.Nat.{ℕ}
 use Rattle.decimal.specs.Value.{decimal, Same}
-use Rattle.svg.specs.Grammar.{move, line, curve, close, Commands, parse}
+use Rattle.svg_grammar.specs.Grammar.{move, line, curve, close, Commands, parse}
 
 abbrev Accepts : List ℕ → Commands → Type 0
 Accepts text commands = parse text ≡ some commands

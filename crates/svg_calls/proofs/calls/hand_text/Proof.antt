@@ -1,11 +1,11 @@
--- `svg::calls::hand_text` meets its contract: a text that was put has room, by its bound or by its counted length. Assumes nothing.
+-- `svg_calls::calls::hand_text` meets its contract: a text that was put has room, by its bound or by its counted length. Assumes nothing.
 use mathlib.Core.Path.{_∙_, sym, ap}
 use native.Mathlib.Omega.{arith}
 use borrow.Author.Needs.{needs}
-use Rattle.svg.specs.declared.calls.Answer.the-variants.{Accepted}
-use Rattle.svg.proofs.Outcomes.{without-room, put-in-room}
-use Rattle.svg.proofs.calls.hand_text.Statement.{statement}
-use Rattle.svg.proofs.calls.hand_text.Tie as tie
+use Rattle.svg_calls.specs.declared.calls.Answer.the-variants.{Accepted}
+use Rattle.svg_calls.proofs.Outcomes.{without-room, put-in-room}
+use Rattle.svg_calls.proofs.calls.hand_text.Statement.{statement}
+use Rattle.svg_calls.proofs.calls.hand_text.Tie as tie
 
 returns : tie.Need-returns
 returns c =

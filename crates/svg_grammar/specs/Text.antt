@@ -3,7 +3,7 @@ use Prim.Native.Nat.{ℕ}
 use mathlib.Core.List.{List, [], _∷_, _++_}
 use lib.IntN.{ℤ}
 use Rattle.decimal.specs.Text.{thousandthsText}
-use Rattle.svg.specs.Grammar.{Command, move, line, curve, close}
+use Rattle.svg_grammar.specs.Grammar.{Command, move, line, curve, close}
 
 unfoldable pub pairText : ℤ → ℤ → List ℕ
 pairText x y = thousandthsText x ++ 32 ∷ thousandthsText y

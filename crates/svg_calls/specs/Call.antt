@@ -10,9 +10,9 @@ use Rattle.decimal.specs.Text.{floatText}
 use Rattle.path.specs.Flat.{anchorAt}
 use Rattle.refusal.specs.Order.{Test, passes, holds, judge, Verdict, accepted, refused, verdict, tests}
 use Rattle.call.specs.Tests.{pathFits, pathLimit}
-use Rattle.svg.specs.declared.calls.Answer.{Answer}
-use Rattle.svg.specs.declared.calls.Answer.the-variants.{Refused, Accepted}
+use Rattle.svg_calls.specs.declared.calls.Answer.{Answer}
+use Rattle.svg_calls.specs.declared.calls.Answer.the-variants.{Refused, Accepted}
 use Rattle.svg.specs.Path.{textOf}
 
 -- 8: the list is as long as the text
 unfoldable pub textRoom : List ℕ → List ℕ → Test

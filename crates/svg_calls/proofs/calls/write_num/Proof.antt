@@ -1,4 +1,4 @@
--- `svg::calls::write_num` meets its contract: each return cites its outcome. Assumes nothing.
+-- `svg_calls::calls::write_num` meets its contract: each return cites its outcome. Assumes nothing.
 use mathlib.Core.Path.{_≡_, _∙_, sym, ap}
 use mathlib.Core.Bool.{true}
 use native.Mathlib.Omega.{arith}
@@ -6,10 +6,10 @@ use borrow.Author.Needs.{needs}
 use borrow.Author.Tests.{not-true, not-false}
 use Rattle.real.specs.Limit.{inLimit}
 use Rattle.decimal.specs.Text.{floatText}
-use Rattle.svg.specs.declared.calls.Answer.the-variants.{Accepted}
-use Rattle.svg.proofs.Outcomes.{without-room, put-in-room, number-outside, number-handed}
-use Rattle.svg.proofs.calls.write_num.Statement.{statement}
-use Rattle.svg.proofs.calls.write_num.Tie as tie
+use Rattle.svg_calls.specs.declared.calls.Answer.the-variants.{Accepted}
+use Rattle.svg_calls.proofs.Outcomes.{without-room, put-in-room, number-outside, number-handed}
+use Rattle.svg_calls.proofs.calls.write_num.Statement.{statement}
+use Rattle.svg_calls.proofs.calls.write_num.Tie as tie
 
 -- the number is within the limit
 inside : (c : tie.Else1) → inLimit (c .before .before .before .args .x) ≡ true

@@ -14,10 +14,10 @@ use Rattle.refusal.specs.Order.{verdict, firstFailing, judge, holds, tests}
 use Rattle.call.specs.Tests.{places, pathFits, pathLimit}
 use Rattle.decimal.specs.Rounding.{inThousandths}
 use Rattle.decimal.specs.Text.{thousandthsText}
-use Rattle.svg.specs.declared.calls.Answer.{Answer}
-use Rattle.svg.specs.declared.calls.Answer.the-variants.{Refused, Accepted}
+use Rattle.svg_calls.specs.declared.calls.Answer.{Answer}
+use Rattle.svg_calls.specs.declared.calls.Answer.the-variants.{Refused, Accepted}
 use Rattle.svg.specs.Path.{textOf}
-use Rattle.svg.specs.Call.{textRoom, toSvgDVerdict, answer, left, toSvgDAnswer, toSvgDLeft}
+use Rattle.svg_calls.specs.Call.{textRoom, toSvgDVerdict, answer, left, toSvgDAnswer, toSvgDLeft}
 
 abbrev f : ℕ → Float
 f b = ofBits binary64 b

@@ -5,7 +5,7 @@ use mathlib.Core.List.{List, [], _∷_}
 use mathlib.Core.Option.{some}
 use lib.IntN.{ℤ}
 use Rattle.decimal.specs.Value.{Decimal, Same, thousandths}
-use Rattle.svg.specs.Grammar.{Command, move, line, curve, close, Commands, parse}
+use Rattle.svg_grammar.specs.Grammar.{Command, move, line, curve, close, Commands, parse}
 
 -- a decimal that is z thousandths, by value
 abbrev pub Is : Decimal → ℤ → Type 0

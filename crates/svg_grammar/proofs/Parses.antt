@@ -7,10 +7,10 @@ use Prim.Native.Nat.{ℕ}
 use lib.IntN.{ℤ}
 use Rattle.decimal.specs.Text.{thousandthsText}
 use Rattle.decimal.specs.Value.{Decimal}
-use Rattle.svg.specs.Grammar.{Command, move, line, curve, close, Letter, M, L, C, Z, kind, Token, command, number, Gap, first, later, gap, step, inGap, before, taken, lex, atEnd, then, lines, curves, made, parsed, joined, onToken, group, begins, wholePath, grouped, Commands, parse}
-use Rattle.svg.specs.Text.{pairText, commandText, afterText, commandsText}
-use Rattle.svg.specs.ReadsAs.{Alike, moves, lines as lines-alike, curves as curves-alike, closes, AllAlike, none as none-alike, more as more-alike, ReadsAs}
-use Rattle.svg.proofs.Numbers.{before-nil, Ends, finished, spaced, asRead, is-read, number-text}
+use Rattle.svg_grammar.specs.Grammar.{Command, move, line, curve, close, Letter, M, L, C, Z, kind, Token, command, number, Gap, first, later, gap, step, inGap, before, taken, lex, atEnd, then, lines, curves, made, parsed, joined, onToken, group, begins, wholePath, grouped, Commands, parse}
+use Rattle.svg_grammar.specs.Text.{pairText, commandText, afterText, commandsText}
+use Rattle.svg_grammar.specs.ReadsAs.{Alike, moves, lines as lines-alike, curves as curves-alike, closes, AllAlike, none as none-alike, more as more-alike, ReadsAs}
+use Rattle.svg_grammar.proofs.Numbers.{before-nil, Ends, finished, spaced, asRead, is-read, number-text}
 
 before-both : (a b : List Token) (o : Option (List Token)) → before a (before b o) ≡ before (a ++ b) o
 unfolding before
@@ -74,7 +74,7 @@ open-after (line x y) = open-later
 open-after (curve a b c d x y) = open-later
 open-after close = open-first
 
-letter : {g : Gap} → Open g → (b : ℕ) (l : Letter) (r : List ℕ) → kind b ≡ Rattle.svg.specs.Grammar.letter l → lex (gap g) (b ∷ r) ≡ before (command l ∷ []) (lex (gap first) r)
+letter : {g : Gap} → Open g → (b : ℕ) (l : Letter) (r : List ℕ) → kind b ≡ Rattle.svg_grammar.specs.Grammar.letter l → lex (gap g) (b ∷ r) ≡ before (command l ∷ []) (lex (gap first) r)
 unfolding lex step inGap taken
 letter open-first b l r e = ap (λ k. taken (step k (gap first)) (λ s. lex s r)) e
 letter open-later b l r e = ap (λ k. taken (step k (gap later)) (λ s. lex s r)) e

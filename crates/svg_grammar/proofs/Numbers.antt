@@ -12,8 +12,8 @@ use Rattle.decimal.specs.Text.{thousandthsText}
 use Rattle.decimal.specs.Value.{Decimal, decimal}
 use Rattle.decimal.specs.Numeral.{Sign, bare, plus, minus, Numeral, Digits, none as no-digits, more, Proper, signText, digitsText, pointText, numeralText, digitsAfter, isMinus, numeralValue}
 use Rattle.decimal.proofs.Numerals.{written}
-use Rattle.svg.specs.ReadsAs.{Is}
-use Rattle.svg.specs.Grammar.{digit, kind, Part, signed, whole, decimals, ended, onDigit, Token, number, Gap, later, State, gap, inside, inGap, inNumber, step, after, atEnd, before, taken, lex}
+use Rattle.svg_grammar.specs.ReadsAs.{Is}
+use Rattle.svg_grammar.specs.Grammar.{digit, kind, Part, signed, whole, decimals, ended, onDigit, Token, number, Gap, later, State, gap, inside, inGap, inNumber, step, after, atEnd, before, taken, lex}
 
 pub before-nil : (o : Option (List Token)) → before [] o ≡ o
 unfolding before
