@@ -25,8 +25,8 @@ use Rattle.hit.specs.declared.segments.HitSegment.{HitSegment}
 use Rattle.hit.specs.declared.segments.HitSegment.the-variants as segment
 use Rattle.bounds.specs.declared.boxes.Extent.{Extent}
 use Rattle.bounds.specs.declared.boxes.Extent.the-variants as extent
-use Rattle.job.specs.declared.call.Job.{Job}
-use Rattle.job.specs.declared.call.Job.the-variants as job
+use Rattle.job_calls.specs.declared.call.Job.{Job}
+use Rattle.job_calls.specs.declared.call.Job.the-variants as job
 use Rattle.cubic_calls.specs.declared.answers.Number.the-variants as number
 use Rattle.cubic_calls.specs.declared.answers.Point.the-variants as located
 use Rattle.cubic_calls.specs.declared.answers.Filled.the-variants as filled

@@ -3,31 +3,26 @@ ghost use mathlib.Core.Path.{_≡_};
 ghost use Prim.Native.Nat.{_*_, _≤_};
 ghost use lib.ListN.{getD};
 ghost use Rattle.views.specs.View.{entry};
 ghost use Rattle.job.specs.Words.{wordsOf, wordList};
 ghost use Rattle.job.specs.Order.{Fair};
 ghost use Rattle.job.specs.Reading.{scanned};
 ghost use Rattle.job.specs.Lists.{layShapes, layNumbers, layRadii};
 ghost use Rattle.job.specs.declared.order.Seen.{Seen};
-ghost use Rattle.job.specs.declared.call.Scan.the-variants.{Done};
-ghost use Rattle.job.specs.Call.{roomFor, roomIn, handed, handedAnswer, readAnswer, readShapes, readAnchors, readRadii};
+ghost use Rattle.job.specs.declared.reading.Scan.the-variants.{Done};
+ghost use Rattle.job_calls.specs.Call.{roomFor, roomIn, handed, handedAnswer, readAnswer, readShapes, readAnchors, readRadii};
 use crate::lists::put_number;
 use crate::lists::put_radius;
 use crate::lists::put_shape;
-use crate::order::Seen;
-use crate::order::advance;
-use crate::order::refusal_of;
-use crate::words::word_at;
+use job::Scan;
+use job::Seen;
+use job::advance;
+use job::refusal_of;
+use job::word_at;
 
 // A refusal's number and place, or the head's kind (0 round, 1 inverted, 2 chamfer) and how many subpaths and anchors were read.
 pub enum Job {
     Refused(u32, usize),
     Read(u32, usize, usize),
-}
-
-// A refusal, or what was read up to the end word.
-pub enum Scan {
-    Refused(u32, usize),
-    Done(Seen),
 }
 
 // Reads the words of a file of whole words into lists that have room for any job.

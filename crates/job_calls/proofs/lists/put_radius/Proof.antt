@@ -1,11 +1,11 @@
--- `job::lists::put_radius` meets its contract. Assumes nothing.
+-- `job_calls::lists::put_radius` meets its contract. Assumes nothing.
 use mathlib.Core.Path.{_≡_}
 use native.Mathlib.Omega.{arith}
 use borrow.Author.Needs.{needs}
 use borrow.Author.Tests.{eq-eqb, ne-eqb}
 use Rattle.job.specs.Lists.{putRadius}
-use Rattle.job.proofs.lists.put_radius.Statement.{statement}
-use Rattle.job.proofs.lists.put_radius.Tie as tie
+use Rattle.job_calls.proofs.lists.put_radius.Statement.{statement}
+use Rattle.job_calls.proofs.lists.put_radius.Tie as tie
 
 returns : tie.Need-returns
 unfolding putRadius

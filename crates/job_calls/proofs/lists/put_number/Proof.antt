@@ -1,13 +1,13 @@
--- `job::lists::put_number` meets its contract. Assumes nothing.
+-- `job_calls::lists::put_number` meets its contract. Assumes nothing.
 use mathlib.Core.Path.{_≡_}
 use mathlib.Core.Bool.{and-false}
 use lib.Dec.{leb}
 use native.Mathlib.Omega.{arith}
 use borrow.Author.Needs.{needs}
 use borrow.Author.Tests.{le-leb, lt-leb, lt-ltb, le-ltb}
 use Rattle.job.specs.Lists.{putNumber}
-use Rattle.job.proofs.lists.put_number.Statement.{statement}
-use Rattle.job.proofs.lists.put_number.Tie as tie
+use Rattle.job_calls.proofs.lists.put_number.Statement.{statement}
+use Rattle.job_calls.proofs.lists.put_number.Tie as tie
 
 returns : tie.Need-returns
 unfolding putNumber

@@ -1,15 +1,15 @@
--- `job::call::read` meets its contract: each outcome answers and leaves what its law says. Assumes nothing.
+-- `job_calls::call::read` meets its contract: each outcome answers and leaves what its law says. Assumes nothing.
 use mathlib.Core.Path.{_≡_, refl, sym, _∙_}
 use Prim.Native.Nat.{_/_, _%_}
 use lib.ListN.{length}
 use borrow.Author.Needs.{needs}
 use Rattle.job.specs.declared.order.Seen.{Seen}
-use Rattle.job.specs.declared.call.Scan.the-variants as scan
+use Rattle.job.specs.declared.reading.Scan.the-variants as scan
 use Rattle.job.specs.Words.{wordsOf}
 use Rattle.job.specs.Reading.{scanned}
-use Rattle.job.proofs.Outcomes.{length-fails, word-fails, refused-answer, refused-shapes, refused-anchors, refused-radii, facts, handed-answer, handed-shapes, handed-anchors, handed-radii}
-use Rattle.job.proofs.call.read.Statement.{statement}
-use Rattle.job.proofs.call.read.Tie as tie
+use Rattle.job_calls.proofs.Outcomes.{length-fails, word-fails, refused-answer, refused-shapes, refused-anchors, refused-radii, facts, handed-answer, handed-shapes, handed-anchors, handed-radii}
+use Rattle.job_calls.proofs.call.read.Statement.{statement}
+use Rattle.job_calls.proofs.call.read.Tie as tie
 
 returns : tie.Need-returns
 returns c =

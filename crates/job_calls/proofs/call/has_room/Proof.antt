@@ -1,13 +1,13 @@
--- `job::call::has_room` meets its contract. Assumes nothing.
+-- `job_calls::call::has_room` meets its contract. Assumes nothing.
 use mathlib.Core.Bool.{and-false}
 use Prim.Native.Nat.{_*_}
 use lib.Dec.{leb}
 use native.Mathlib.Omega.{arith}
 use borrow.Author.Needs.{needs}
 use borrow.Author.Tests.{le-leb, lt-leb}
-use Rattle.job.specs.Call.{roomFor}
-use Rattle.job.proofs.call.has_room.Statement.{statement}
-use Rattle.job.proofs.call.has_room.Tie as tie
+use Rattle.job_calls.specs.Call.{roomFor}
+use Rattle.job_calls.proofs.call.has_room.Statement.{statement}
+use Rattle.job_calls.proofs.call.has_room.Tie as tie
 
 returns : tie.Need-returns
 unfolding roomFor

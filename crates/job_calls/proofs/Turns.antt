@@ -12,12 +12,12 @@ use lib.Ieee.{Float}
 use borrow.Author.Tests.{eq-eqb, ne-eqb}
 use Rattle.views.specs.View.{tabulate}
 use Rattle.views.proofs.Laws.{length-tabulate, at-tabulate}
 use Rattle.job.specs.declared.order.Seen.{Seen}
-use Rattle.job.specs.declared.call.Scan.the-variants.{Refused, Done}
+use Rattle.job.specs.declared.reading.Scan.the-variants.{Refused, Done}
 use Rattle.job.specs.Words.{wordAt, wordsOf, Word, word, split, wordList}
 use Rattle.job.specs.Order.{refusalOf, advance}
 use Rattle.job.specs.Lists.{putShape, putNumber, putRadius, layShapes, layNumbers, layRadii}
 use Rattle.job.specs.Reading.{settle, scanFrom}
 
 abbrev pub wordsIn : List ℕ → List Word
 wordsIn bytes = wordList (wordsOf bytes)

@@ -32,7 +32,7 @@ pub fn put_number(numbers: &mut [f64; 3072], anchors: usize, kind: u32, payload:
         return;
     }
     let at = last_of(anchors) * 6 + (kind - 2) as usize;
-    let x = crate::words::number(payload);
+    let x = job::number(payload);
     numbers[at] = x;
     if kind < 4 {
         numbers[at + 2] = x;
@@ -50,6 +50,6 @@ pub fn put_radius(radii: &mut [f64; 512], anchors: usize, kind: u32, payload: u3
         return;
     }
     if kind == 8 {
-        radii[last_of(anchors)] = crate::words::number(payload);
+        radii[last_of(anchors)] = job::number(payload);
     }
 }

@@ -1,16 +1,16 @@
--- `job::call::read_words` meets its contract: what is left to be read and laid is what there was at first. Assumes nothing.
+-- `job_calls::call::read_words` meets its contract: what is left to be read and laid is what there was at first. Assumes nothing.
 use mathlib.Core.Path.{_≡_, refl, sym, ap, subst, _∙_}
 use Prim.Native.Nat.{ℕ, zero, suc, _+_, _-_, _*_, _/_, _%_, _≤_, _<_}
 use native.Mathlib.Omega.{arith}
 use lib.ListN.{length, drop}
-use Rattle.job.specs.declared.call.Scan.the-variants.{Refused}
+use Rattle.job.specs.declared.reading.Scan.the-variants.{Refused}
 use Rattle.job.specs.Order.{refusalOf, start, Fair}
 use Rattle.job.specs.Reading.{scanFrom, scanned}
 use Rattle.job.specs.Lists.{layShapes, layNumbers, layRadii}
 use Rattle.job.proofs.Orders.{passed, fair-after}
-use Rattle.job.proofs.Turns.{wordsIn, words-end, turn-stops, turn-reads, turn-shapes, turn-numbers, turn-radii, end-lacks, end-done, refused-not-done}
-use Rattle.job.proofs.call.read_words.Statement.{statement}
-use Rattle.job.proofs.call.read_words.Tie as tie
+use Rattle.job_calls.proofs.Turns.{wordsIn, words-end, turn-stops, turn-reads, turn-shapes, turn-numbers, turn-radii, end-lacks, end-done, refused-not-done}
+use Rattle.job_calls.proofs.call.read_words.Statement.{statement}
+use Rattle.job_calls.proofs.call.read_words.Tie as tie
 
 abbrev Inv-loop : tie.InvT-loop
 Inv-loop bytes shapes₀ numbers₀ radii₀ seen₀ i₀ i-end shapes numbers radii seen i =

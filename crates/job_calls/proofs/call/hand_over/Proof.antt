@@ -1,4 +1,4 @@
--- `job::call::hand_over` meets its contract: the lent lists are written where all of them have room. Assumes nothing.
+-- `job_calls::call::hand_over` meets its contract: the lent lists are written where all of them have room. Assumes nothing.
 use mathlib.Core.Path.{_≡_, refl, sym, _∙_}
 use mathlib.Core.Bool.{true, false}
 use Prim.Native.Nat.{_*_, _≤_}
@@ -6,10 +6,10 @@ use native.Mathlib.Omega.{arith}
 use lib.ListN.{length}
 use borrow.Author.Needs.{needs}
 use borrow.Author.Tests.{not-true, not-false}
-use Rattle.job.specs.Call.{roomIn, handedAnswer, handed}
-use Rattle.job.proofs.Outcomes.{roomy}
-use Rattle.job.proofs.call.hand_over.Statement.{statement}
-use Rattle.job.proofs.call.hand_over.Tie as tie
+use Rattle.job_calls.specs.Call.{roomIn, handedAnswer, handed}
+use Rattle.job_calls.proofs.Outcomes.{roomy}
+use Rattle.job_calls.proofs.call.hand_over.Statement.{statement}
+use Rattle.job_calls.proofs.call.hand_over.Tie as tie
 
 returns : tie.Need-returns
 unfolding handedAnswer handed

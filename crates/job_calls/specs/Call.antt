@@ -6,12 +6,12 @@ use lib.Dec.{leb, eqb}
 use lib.ListN.{length, getD}
 use lib.Ieee.{Float}
 use Rattle.views.specs.View.{entry, overwrite}
-use Rattle.job.specs.declared.call.Job as declared
-use Rattle.job.specs.declared.call.Job.the-variants.{Refused, Read}
+use Rattle.job_calls.specs.declared.call.Job as declared
+use Rattle.job_calls.specs.declared.call.Job.the-variants.{Refused, Read}
 use Rattle.job.specs.declared.order.Seen.{Seen}
 use Rattle.job.specs.Words.{wordsOf}
 use Rattle.job.specs.Content.{shapeWords, jobAnchors, jobNumbers, jobRadii}
 use Rattle.job.specs.Reading.{Reading, refused, accepted, reading}
 
 -- a file of whole words is read; else refusal 1, at the number of whole words
 unfoldable pub fileRead : List ℕ → Reading

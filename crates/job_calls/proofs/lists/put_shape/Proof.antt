@@ -1,4 +1,4 @@
--- `job::lists::put_shape` meets its contract. Assumes nothing.
+-- `job_calls::lists::put_shape` meets its contract. Assumes nothing.
 use mathlib.Core.Path.{_≡_, sym}
 use mathlib.Core.Logic.{⊎-elim}
 use mathlib.Core.Bool.{true, _||_, or-true}
@@ -9,9 +9,9 @@ use native.Mathlib.Omega.{arith}
 use lib.Dec.{eqb}
 use borrow.Author.Needs.{needs}
 use borrow.Author.Tests.{eq-eqb, ne-eqb}
 use Rattle.job.specs.Lists.{putShape}
-use Rattle.job.proofs.lists.put_shape.Statement.{statement}
-use Rattle.job.proofs.lists.put_shape.Tie as tie
+use Rattle.job_calls.proofs.lists.put_shape.Statement.{statement}
+use Rattle.job_calls.proofs.lists.put_shape.Tie as tie
 
 stored : (s k shape : ℕ) (xs : List ℕ) → (eqb k 1 || eqb k 2) ≡ true → putShape s k shape xs ≡ set xs (s - 1) shape
 unfolding putShape

@@ -12,18 +12,18 @@ use borrow.Author.Tests.{eq-eqb, ne-eqb, leb-true}
 use Rattle.views.specs.View.{entry, overwrite}
 use Rattle.views.proofs.Laws.{overwrite-cong}
 use Rattle.views.proofs.Runs.{getD-sets-in}
 use Rattle.job.specs.declared.order.Seen.{Seen}
-use Rattle.job.specs.declared.call.Scan.the-variants as scan
-use Rattle.job.specs.declared.call.Job.the-variants.{Refused, Read}
+use Rattle.job.specs.declared.reading.Scan.the-variants as scan
+use Rattle.job_calls.specs.declared.call.Job.the-variants.{Refused, Read}
 use Rattle.job.specs.Words.{wordsOf, wordList}
 use Rattle.job.specs.Grammar.{Job, spelled}
 use Rattle.job.specs.Content.{jobOf, shapeWord, shapeWords, radiusOf, jobAnchors, jobNumbers, jobRadii}
 use Rattle.job.specs.Lists.{layShapes, layNumbers, layRadii}
 use Rattle.job.specs.Reading.{scanFrom, scanned, Reading, refused, accepted, readingOf, reading}
-use Rattle.job.specs.Call.{fileRead, roomed, outcome, answerOf, shapesLeft, anchorsLeft, radiiLeft, roomFor, roomIn, handedAnswer, handed, readAnswer, readShapes, readAnchors, readRadii}
+use Rattle.job_calls.specs.Call.{fileRead, roomed, outcome, answerOf, shapesLeft, anchorsLeft, radiiLeft, roomFor, roomIn, handedAnswer, handed, readAnswer, readShapes, readAnchors, readRadii}
 use Rattle.job.proofs.Theorems.{Scanned, scan-scanned}
 use Rattle.job.proofs.Laying.{shapes-laid, numbers-laid, numbers-length, radii-laid}
-use Rattle.job.proofs.Turns.{wordsIn}
+use Rattle.job_calls.proofs.Turns.{wordsIn}
 
 -- ---- a list whose first entries are copied
 copied : {A : Type 0} (d : A) (vs zs out : List A) (n : ℕ) → n ≡ length vs → length vs ≤ length zs
