@@ -17,16 +17,16 @@ use Rattle.replay.specs.declared.calls.Replayed.{Replayed}
 use Rattle.replay.specs.declared.calls.Replayed.the-variants as replayed
 use Rattle.corner_calls.specs.declared.calls.Corners.{Corners}
 use Rattle.corner_calls.specs.declared.calls.Corners.the-variants as corners
-use Rattle.svg.specs.declared.calls.Answer.{Answer}
-use Rattle.svg.specs.declared.calls.Answer.the-variants as text
+use Rattle.svg_calls.specs.declared.calls.Answer.{Answer}
+use Rattle.svg_calls.specs.declared.calls.Answer.the-variants as text
 use Rattle.hit.specs.declared.anchors.HitAnchor.{HitAnchor}
 use Rattle.hit.specs.declared.anchors.HitAnchor.the-variants as anchor
 use Rattle.hit.specs.declared.segments.HitSegment.{HitSegment}
 use Rattle.hit.specs.declared.segments.HitSegment.the-variants as segment
-use Rattle.hit.specs.declared.boxes.Extent.{Extent}
-use Rattle.hit.specs.declared.boxes.Extent.the-variants as extent
-use Rattle.job.specs.declared.call.Job.{Job}
-use Rattle.job.specs.declared.call.Job.the-variants as job
+use Rattle.bounds.specs.declared.boxes.Extent.{Extent}
+use Rattle.bounds.specs.declared.boxes.Extent.the-variants as extent
+use Rattle.job_calls.specs.declared.call.Job.{Job}
+use Rattle.job_calls.specs.declared.call.Job.the-variants as job
 use Rattle.cubic_calls.specs.declared.answers.Number.the-variants as number
 use Rattle.cubic_calls.specs.declared.answers.Point.the-variants as located
 use Rattle.cubic_calls.specs.declared.answers.Filled.the-variants as filled

@@ -4,10 +4,10 @@ ghost use Rattle.answers.specs.Answers.{words, filledCode, filledWords, 
 use call::Outline;
 use corner_calls::Corners;
 use cubic_calls::Filled;
-use job::Job;
+use job_calls::Job;
 use replay::Replayed;
 use session::Edited;
-use svg::Answer;
+use svg_calls::Answer;
 
 // Puts the answer's four words.
 pub fn tell(place: usize, count: usize, answer: &mut [u64; 4])

@@ -10,11 +10,11 @@ use Rattle.geom.specs.Point.{origin, plus, times, dot, cross}
 use Rattle.cubic.specs.Cubic.{CEPS}
 use Rattle.path.specs.declared.anchor.Anchor.{Anchor}
 use Rattle.path.specs.Anchor.{isSmooth}
-use Rattle.corner.specs.declared.side.Side.{Side}
-use Rattle.corner.specs.declared.side.Direction.{Direction}
-use Rattle.corner.specs.declared.side.Direction.the-variants.{Along, Nowhere}
+use Rattle.side.specs.declared.side.Side.{Side}
+use Rattle.side.specs.declared.side.Direction.{Direction}
+use Rattle.side.specs.declared.side.Direction.the-variants.{Along, Nowhere}
 use Rattle.corner.specs.declared.corner.Corner.{Corner}
-use Rattle.corner.specs.Side.{sideOf, direction, lengthOf}
+use Rattle.side.specs.Side.{sideOf, direction, lengthOf}
 
 abbrev pub 1e-6 : Float
 1e-6 = ofBits binary64 0x3EB0_C6F7_A0B5_ED8D

@@ -7,15 +7,15 @@ use Rattle.real.specs.StandIns.{abs}
 use Rattle.real.specs.Finite.{isFinite}
 use Rattle.geom.specs.Point.{plus, minus, times, dot, cross, dist}
 use Rattle.cubic.specs.Cubic.{CEPS}
-use Rattle.corner.specs.declared.side.At.{At}
+use Rattle.side.specs.declared.side.At.{At}
 use Rattle.corner.specs.declared.corner.Corner.{Corner}
 use Rattle.corner.specs.declared.cut.Lengths.{Lengths}
 use Rattle.corner.specs.declared.cut.Handles.{Handles}
 use Rattle.corner.specs.declared.cut.Cut.{Cut}
 use Rattle.corner.specs.declared.cut.CornerKind.{CornerKind}
 use Rattle.corner.specs.declared.cut.CornerKind.the-variants.{Round, Inverted, Chamfer}
-use Rattle.corner.specs.Side.{isStraightSide, atLength}
-use Rattle.corner.specs.Arc.{squareTo, arcHandle}
+use Rattle.side.specs.Side.{isStraightSide, atLength}
+use Rattle.arc.specs.Arc.{squareTo, arcHandle}
 use Rattle.corner.specs.Corner.{1e-6, setback}
 
 -- two tangents cross, ahead of both points: x and y along them, where the directions' cross product is cr

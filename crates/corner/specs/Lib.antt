@@ -1,4 +1,2 @@
-pub mod Side
-pub mod Arc
 pub mod Corner
 pub mod Cut

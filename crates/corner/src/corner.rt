@@ -1,11 +1,11 @@
 // `Corner`: where two sides meet at an angle.
 ghost use mathlib.Core.Path.{_≡_};
 ghost use Rattle.corner.specs.Corner.{cornerOf, meet, noCorner, sharp, cos, sin, setback, radiusAtSetback, maxRadius, room, maxRadiusBeside, onBisector, radiusChange};
-use crate::side::Direction;
-use crate::side::Side;
 use geom::P;
 use geom::cross;
 use path::Anchor;
+use side::Direction;
+use side::Side;
 
 // The point, the unit directions in which the sides leave it (towards the previous anchor, then the next), the sides'
 // lengths, and the sides. Where an anchor is no corner, found is false and all else zero.

@@ -1,13 +1,13 @@
 // `Cut`: how a corner is cut.
 ghost use mathlib.Core.Path.{_≡_};
 ghost use Rattle.corner.specs.Cut.{straightSides, crossAhead, tangentHandles, roundHandles, rounded, inverted, handles, cut};
-use crate::arc::arc_handle;
-use crate::arc::square_to;
 use crate::corner::Corner;
-use crate::side::At;
-use crate::side::is_straight_side;
+use arc::arc_handle;
+use arc::square_to;
 use geom::P;
 use geom::cross;
+use side::At;
+use side::is_straight_side;
 
 pub enum CornerKind {
     // An arc tangent to both sides.

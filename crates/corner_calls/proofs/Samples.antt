@@ -16,7 +16,7 @@ use Rattle.path.specs.Shape.{subOf, prev, next}
 use Rattle.refusal.specs.Order.{verdict, firstFailing, judge, holds, tests}
 use Rattle.call.specs.Tests.{places, pathFits, pathLimit}
 use Rattle.call.specs.Answers.{listLeft}
-use Rattle.corner.specs.Side.{isStraightSide, unit, towards, direction, lengthOf}
+use Rattle.side.specs.Side.{isStraightSide, unit, towards, direction, lengthOf}
 use Rattle.corner.specs.Corner.{cos, sin, sharp, meet, between, cornerOf, radiusAtSetback, maxRadius}
 use Rattle.cut.specs.View.{arrives, leaves}
 use Rattle.cut.specs.Subpath.{viewOf}

@@ -1,7 +1,5 @@
 pub mod Steps
 pub mod HeldRows
-pub mod FoundCorners
-pub mod Ends
 pub mod Stages
 pub mod Whole
 pub mod Follow

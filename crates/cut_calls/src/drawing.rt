@@ -36,7 +36,7 @@ pub fn lay_drawing(
             closed: path::closed_of(shapes[s]),
         };
         let w = Window { at: 0, reach: n };
-        cut::recut(
+        passes::recut(
             anchors,
             radii,
             kind,

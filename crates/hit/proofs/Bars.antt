@@ -15,7 +15,7 @@ use Rattle.geom.specs.Point.{dot, len}
 use Rattle.path.specs.declared.limit.Found.the-variants.{At, Nothing}
 use Rattle.hit.specs.declared.best.Best.{Best}
 use Rattle.hit.specs.Best.{beats, counts, taken, Barred}
-use Rattle.hit.proofs.Orders.{not-above, le-trans}
+use Rattle.real.proofs.Orders.{not-above, le-trans}
 
 holds : (b : Bool) → b ≡ true → T b
 holds true e = tt

@@ -11,15 +11,16 @@ use Rattle.geom.specs.declared.point.P.{P}
 use Rattle.geom.specs.Point.{len}
 use Rattle.refusal.specs.Order.{accepted, refused}
 use Rattle.path.specs.declared.limit.Found.the-variants.{At, Nothing}
+use Rattle.path.specs.Flat.{curveOf}
 use Rattle.path.specs.Shape.{countOf, closedOf, total, wordAt, start, subOf, isSegment}
 use Rattle.hit.specs.declared.best.Best.{Best}
 use Rattle.hit.specs.declared.located.Located.{Located}
 use Rattle.hit.specs.declared.segments.HitSegment.the-variants as segment
 use Rattle.hit.specs.Located.{indexOf, located}
-use Rattle.hit.specs.Steps.{stepOffset, stepParameter, curveOf, wordOver, startsAt, curveFrom, chordDistance, chordWithin, nearestChord}
+use Rattle.hit.specs.Steps.{stepOffset, stepParameter, wordOver, startsAt, curveFrom, chordDistance, chordWithin, nearestChord}
 use Rattle.hit.specs.Tried.{tried, triedFrom}
 use Rattle.hit.specs.Calls.{hitVerdict, segmentAnswer, hitSegmentAnswer}
-use Rattle.hit.proofs.Orders.{le-number}
+use Rattle.real.proofs.Orders.{le-number}
 use Rattle.hit.proofs.Subpaths.{sub-at, index-at, Placed, placed}
 use Rattle.hit.proofs.Walked.{Stands, stands-skipped, stands-tried}
 use Rattle.hit.proofs.Theorems.{nearest-is}

@@ -16,7 +16,7 @@ use Rattle.path.specs.Shape.{countOf, wordAt, total, start, subOf}
 use Rattle.hit.specs.declared.anchors.HitAnchor.the-variants.{Nothing, At}
 use Rattle.hit.specs.Located.{indexOf}
 use Rattle.hit.specs.Calls.{hitVerdict, anchorDistance, nearestAnchor, anchorAnswer, hitAnchorAnswer}
-use Rattle.hit.proofs.Orders.{le-number}
+use Rattle.real.proofs.Orders.{le-number}
 use Rattle.hit.proofs.Subpaths.{Placed, placed}
 use Rattle.hit.proofs.Theorems.{NearestWithin, nothing-is, nearest-is}
 

@@ -1,13 +1,8 @@
-pub mod Orders
 pub mod Bars
 pub mod Walked
 pub mod Offsets
-pub mod Lent
 pub mod Subpaths
 pub mod Outcomes
 pub mod Theorems
 pub mod HitAnchors
 pub mod Candidates
-pub mod Growths
-pub mod Extents
-pub mod Within

@@ -1,23 +1,20 @@
 -- Chords by what the calls on the way give, and the candidates of a curve one more at a time. Assumes nothing.
-use mathlib.Core.Path.{_≡_, refl, sym, ap, _∙_}
-use mathlib.Core.Logic.{⊎-elim}
+use mathlib.Core.Path.{_≡_}
 use mathlib.Core.Bool.{Bool, true, false}
 use mathlib.Core.List.{List}
-use Prim.Native.Nat.{ℕ, zero, suc, _+_, _*_, _≤_, _<_}
+use Prim.Native.Nat.{ℕ, _+_, _*_}
 use native.Mathlib.Numerals.{add-one}
-use native.Mathlib.Omega.{arith}
 use lib.Ieee.{Float, lt}
-use borrow.Author.Tests.{lt-ltb, le-ltb}
-use Rattle.views.proofs.Laws.{order}
 use Rattle.real.specs.Operators.{_⊘_, 0f, 1f}
 use Rattle.real.specs.StandIns.{clamp}
 use Rattle.geom.specs.declared.point.P.{P}
 use Rattle.geom.specs.Point.{plus, minus, times, dot}
 use Rattle.cubic.specs.Sample.{stepAt}
-use Rattle.path.specs.Shape.{next, isSegment}
+use Rattle.path.specs.Flat.{curveOf}
+use Rattle.path.specs.Shape.{isSegment}
 use Rattle.hit.specs.declared.best.Best.{Best}
 use Rattle.hit.specs.Best.{taken}
-use Rattle.hit.specs.Steps.{1e-12, along, offset, stepOffset, curveOf}
+use Rattle.hit.specs.Steps.{1e-12, along, offset, stepOffset}
 use Rattle.hit.specs.Tried.{tried, triedFrom}
 
 module _ (q a b d : P) (s : Float) (d-is : d ≡ minus b a) (s-is : s ≡ dot d d) where
@@ -32,10 +29,6 @@ module _ (q a b d : P) (s : Float) (d-is : d ≡ minus b a) (s-is : s ≡ dot d 
 pub offset-is : (q a b d m s r : P) (u : Float) → u ≡ along q a b → d ≡ minus b a → m ≡ times d u → s ≡ plus a m → r ≡ minus s q → r ≡ offset q a b
 unfolding offset
 offset-is q a b d m s r u u-is d-is m-is s-is r-is = rw (← u-is, ← d-is, ← m-is, ← s-is) r-is
-
-pub next-below : (n a : ℕ) → a < n → next n a < n
-unfolding next
-next-below n a h = ⊎-elim (λ l. rw (le-ltb (a + 1) n l) (omega arith)) (λ l. rw (lt-ltb (a + 1) n l) l) (order n (a + 1))
 
 -- ---- one more chord
 pub chord-offset : (N : ℕ) (q : P) (c : List P) (j : ℕ) (from to w : P) → from ≡ stepAt c N j → to ≡ stepAt c N (j + 1) → w ≡ offset q from to → w ≡ stepOffset N q c j

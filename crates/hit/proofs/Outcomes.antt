@@ -23,7 +23,7 @@ use Rattle.hit.specs.declared.anchors.HitAnchor.the-variants as anchor
 use Rattle.hit.specs.Located.{indexOf}
 use Rattle.hit.specs.Best.{taken}
 use Rattle.hit.specs.Calls.{queryIn, hitVerdict, anchorDistance, nearestAnchor, anchorAnswer, hitAnchorAnswer}
-use Rattle.hit.proofs.Orders.{le-number}
+use Rattle.real.proofs.Orders.{le-number}
 use Rattle.hit.proofs.Theorems.{nearest-is}
 use Rattle.hit.proofs.Walked.{Stands, stands-more}
 

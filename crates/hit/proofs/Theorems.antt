@@ -11,7 +11,7 @@ use Rattle.path.specs.declared.limit.Found.{Found}
 use Rattle.path.specs.declared.limit.Found.the-variants.{At, Nothing}
 use Rattle.hit.specs.Nearest.{nearer, nearest}
 use Rattle.hit.proofs.Walked.{same-at, apart}
-use Rattle.hit.proofs.Orders.{not-below, lt-is-le, le-self, lt-le-trans}
+use Rattle.real.proofs.Orders.{not-below, lt-is-le, le-self, lt-le-trans}
 
 module _ (within : ℕ → Bool) (d : ℕ → Float) where
   -- none of the first n is within

@@ -1,12 +1,10 @@
--- What the calls answer, after 000's `hit_anchor`, `hit_segment` and `bounds` (document 01, 'Edits, hits and shapes'). Assumes nothing.
+-- What the calls answer, after 000's `hit_anchor` and `hit_segment` (document 01, 'Edits, hits and shapes'). Assumes nothing.
 use Prim.Native.Nat.{ℕ, _/_, _%_}
-use mathlib.Core.Bool.{Bool, true, _&&_, _||_, cond}
+use mathlib.Core.Bool.{Bool, _&&_}
 use mathlib.Core.List.{List}
-use lib.Dec.{eqb}
 use lib.Ieee.{Float, le}
 use Rattle.real.specs.Limit.{inLimit}
 use Rattle.geom.specs.declared.point.P.{P}
-use Rattle.geom.specs.declared.bounds.Bounds.{Bounds}
 use Rattle.geom.specs.Point.{minus, len}
 use Rattle.refusal.specs.Order.{passes, holds, Verdict, accepted, refused, verdict, tests}
 use Rattle.path.specs.declared.limit.Found.{Found}
@@ -18,12 +16,9 @@ use Rattle.hit.specs.declared.anchors.HitAnchor.{HitAnchor}
 use Rattle.hit.specs.declared.anchors.HitAnchor.the-variants as anchor
 use Rattle.hit.specs.declared.segments.HitSegment.{HitSegment}
 use Rattle.hit.specs.declared.segments.HitSegment.the-variants as segment
-use Rattle.hit.specs.declared.boxes.Extent.{Extent}
-use Rattle.hit.specs.declared.boxes.Extent.the-variants as extent
 use Rattle.hit.specs.Nearest.{nearest}
 use Rattle.hit.specs.Located.{indexOf}
 use Rattle.hit.specs.Steps.{curveFrom, stepParameter, nearestChord}
-use Rattle.hit.specs.Points.{boxOf}
 
 -- the loose arguments
 unfoldable pub queryIn : P → Float → Bool
@@ -58,21 +53,3 @@ module _ (N : ℕ) (shapes : List ℕ) (anchors : List Float) (q : P) where
 
 unfoldable pub hitSegmentAnswer : List ℕ → List Float → P → Float → HitSegment
 hitSegmentAnswer shapes anchors q tol = segmentAnswer 48 shapes anchors q (hitVerdict shapes anchors q tol) (nearestChord shapes anchors 48 q tol)
-
--- ---- `bounds`
--- 9: the numbers of the box
-unfoldable pub boxIn : Bounds → Bool
-boxIn b = inLimit (b .min .x) && (inLimit (b .min .y) && (inLimit (b .max .x) && inLimit (b .max .y)))
-
--- 7, 5, and 9 where there is a box
-unfoldable pub boundsVerdict : List ℕ → List Float → Verdict
-boundsVerdict shapes anchors =
-    verdict (tests (holds (pathFits 1024 shapes anchors) 0) (pathLimit shapes anchors true) passes passes (holds (eqb (total shapes) 0 || boxIn (boxOf shapes anchors)) 0) passes)
-
--- a path without anchors has no box
-unfoldable pub extentAnswer : Verdict → ℕ → Bounds → Extent
-extentAnswer (refused n place) count b = extent.Refused n place
-extentAnswer accepted count b = cond (eqb count 0) extent.Empty (extent.Box (b .min) (b .max))
-
-unfoldable pub boundsAnswer : List ℕ → List Float → Extent
-boundsAnswer shapes anchors = extentAnswer (boundsVerdict shapes anchors) (total shapes) (boxOf shapes anchors)

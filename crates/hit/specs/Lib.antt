@@ -3,5 +3,4 @@ pub mod Best
 pub mod Located
 pub mod Steps
 pub mod Tried
-pub mod Points
 pub mod Calls

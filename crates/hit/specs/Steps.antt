@@ -8,11 +8,9 @@ use Rattle.real.specs.StandIns.{clamp}
 use Rattle.geom.specs.declared.point.P.{P}
 use Rattle.geom.specs.Point.{plus, minus, times, dot, len}
 use Rattle.cubic.specs.Sample.{stepAt}
-use Rattle.path.specs.declared.anchor.Anchor.{Anchor}
 use Rattle.path.specs.declared.limit.Found.{Found}
-use Rattle.path.specs.Anchor.{segment}
-use Rattle.path.specs.Flat.{anchorAt}
-use Rattle.path.specs.Shape.{countOf, closedOf, total, wordAt, start, subOf, isSegment, next}
+use Rattle.path.specs.Flat.{curveOf}
+use Rattle.path.specs.Shape.{countOf, closedOf, total, wordAt, start, subOf, isSegment}
 use Rattle.hit.specs.Located.{indexOf}
 use Rattle.hit.specs.Nearest.{nearest}
 
@@ -39,10 +37,6 @@ module _ (N : ℕ) (q : P) (c : List P) (j : ℕ) where
       let from = float j ⊘ float N in
       let to = float (j + 1) ⊘ float N in
       from ⊕ (to ⊖ from) ⊗ along q (stepAt c N j) (stepAt c N (j + 1))
-
--- ---- the segment from anchor a of the n of a subpath, the first of which is at place k
-unfoldable pub curveOf : List Float → ℕ → ℕ → ℕ → List P
-curveOf anchors k n a = segment (anchorAt anchors (k + a)) (anchorAt anchors (k + next n a))
 
 module _ (shapes : List ℕ) where
   -- the word of the subpath in which place k lies

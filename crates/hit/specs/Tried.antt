@@ -4,10 +4,11 @@ use mathlib.Core.Bool.{Bool, cond}
 use mathlib.Core.List.{List}
 use lib.Ieee.{Float}
 use Rattle.geom.specs.declared.point.P.{P}
+use Rattle.path.specs.Flat.{curveOf}
 use Rattle.path.specs.Shape.{isSegment}
 use Rattle.hit.specs.declared.best.Best.{Best}
 use Rattle.hit.specs.Best.{taken}
-use Rattle.hit.specs.Steps.{stepOffset, curveOf}
+use Rattle.hit.specs.Steps.{stepOffset}
 
 -- after candidates i, i + 1, .., m of them, which lie v 0, v 1, .. away
 unfoldable pub tried : Float → ℕ → (ℕ → P) → Best → ℕ → Best

@@ -2,7 +2,7 @@
 ghost use mathlib.Core.Path.{_≡_};
 ghost use Prim.Native.Nat.{_+_, _*_, _^_, _≤_, _<_};
 ghost use lib.ListN.{length};
-ghost use Rattle.hit.specs.Steps.{along, offset, stepParameter, curveOf};
+ghost use Rattle.hit.specs.Steps.{along, offset, stepParameter};
 use geom::P;
 
 // How much of the chord from a to b lies before its point nearest q, from 0 to 1; 0 where the chord is too short to tell.
@@ -34,14 +34,4 @@ pub fn parameter(n: usize, q: P, c: [P; 4], j: usize) -> f64
     let from = j as f64 / n as f64;
     let to = (j + 1) as f64 / n as f64;
     from + (to - from) * u
-}
-
-// The curve from anchor a of the n of a subpath, the first of which is at place k, to the next.
-pub fn curve_at(anchors: &[f64], k: usize, n: usize, a: usize) -> [P; 4]
-    requires { ⌜ (a < n) × (k + n ≤ 1024) × ((k + n) * 6 ≤ length (now anchors)) ⌝ }
-    ensures { λ r. ⌜ r ≡ curveOf (now (anchors .entry)) k n a ⌝ }
-{
-    let from = path::anchor_at(anchors, k + a);
-    let to = path::anchor_at(anchors, k + path::next(n, a));
-    from.cubic(to)
 }

@@ -12,7 +12,6 @@ ghost use Rattle.hit.specs.Steps.{stepOffset, nearestChord};
 ghost use Rattle.hit.specs.Tried.{tried, triedFrom};
 ghost use Rattle.hit.specs.Calls.{segmentAnswer, hitSegmentAnswer};
 use crate::best::Best;
-use crate::chords::curve_at;
 use crate::chords::offset;
 use crate::chords::parameter;
 use crate::located::locate;
@@ -63,7 +62,7 @@ fn try_subpath(
         if !path::has_segment(n, closed, a) {
             continue;
         }
-        b = try_curve(curve_at(anchors, k, n, a), (k + a) * 48, q, tol, b);
+        b = try_curve(path::curve_at(anchors, k, n, a), (k + a) * 48, q, tol, b);
     }
     b
 }
@@ -92,7 +91,7 @@ fn hit_chord(shapes: &[u32], anchors: &[f64], q: P, i: usize) -> HitSegment
     let at = locate(shapes, k);
     let s = at.subpath;
     let a = at.anchor;
-    let c = curve_at(anchors, k - a, path::count_of(shapes[s]), a);
+    let c = path::curve_at(anchors, k - a, path::count_of(shapes[s]), a);
     HitSegment::At(s, a, parameter(48, q, c, i % 48))
 }
 

@@ -10,7 +10,7 @@ use lib.Dec.{leb, ltb, eqb}
 use lib.ListN.{length, length-append}
 use borrow.Author.Tests.{eqb-true, lt-ltb, lt-leb, ne-eqb, ltb-true}
 use Rattle.job.specs.declared.order.Seen.{Seen}
-use Rattle.job.specs.declared.call.Scan.the-variants.{Done}
+use Rattle.job.specs.declared.reading.Scan.the-variants.{Done}
 use Rattle.job.specs.Words.{Word, word}
 use Rattle.job.specs.Grammar.{
   Pair,

@@ -7,7 +7,5 @@ pub mod Accepting
 pub mod Theorems
 pub mod Numbers
 pub mod Laying
-pub mod Turns
-pub mod Outcomes
 pub mod Prefixes
 pub mod Openings

@@ -9,8 +9,8 @@ use lib.Dec.{leb, ltb, eqb}
 use lib.ListN.{length, take, length-map}
 use borrow.Author.Tests.{ne-eqb, eqb-true, ltb-true, lt-ltb, lt-leb}
 use Rattle.job.specs.declared.order.Seen.{Seen}
-use Rattle.job.specs.declared.call.Scan.{Scan}
-use Rattle.job.specs.declared.call.Scan.the-variants.{Refused, Done}
+use Rattle.job.specs.declared.reading.Scan.{Scan}
+use Rattle.job.specs.declared.reading.Scan.the-variants.{Refused, Done}
 use Rattle.job.specs.Words.{Word, word, split, joined, wordList}
 use Rattle.job.specs.Grammar.{Job, end, written, Within}
 use Rattle.job.specs.Order.{member, wholes, rows, afterIn, mayFollow, payloads, isFull, refusalOf, countSubpath, advance, start}

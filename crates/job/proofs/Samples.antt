@@ -1,19 +1,15 @@
 -- The starred job of document 01 and one refusal of each number, by computation. Assumes nothing.
 use mathlib.Core.Path.{_≡_, refl}
-use mathlib.Core.Bool.{true, false}
+use mathlib.Core.Bool.{true}
 use mathlib.Core.List.{List, [], _∷_, _++_}
 use mathlib.Core.Option.{none, some}
 use Prim.Native.Nat.{ℕ, zero, suc}
 use lib.ListN.{replicate}
 use lib.Ieee.{Float, binary64, ofBits, ofInt, div, round, neg}
-use Rattle.views.specs.View.{tabulate, overwrite}
-use Rattle.job.specs.declared.call.Job.the-variants.{Refused, Read}
-use Rattle.job.specs.Words.{wordsOf}
 use Rattle.job.specs.Number.{number}
 use Rattle.job.specs.Grammar.{Anchor, Job, written, anchorsOf}
 use Rattle.job.specs.Content.{pair, shapeWord, sixOf, numbersOf, radiusOf, shapeWords, jobNumbers, jobRadii}
 use Rattle.job.specs.Reading.{refused, accepted, reading}
-use Rattle.job.specs.Call.{readAnswer, readShapes}
 
 -- ---- the square of 8 mm, radius 2 at its first corner
 abbrev squareWords : List ℕ
@@ -147,24 +143,3 @@ anchorWords (suc n) = 0x2000_0000 ∷ 0x3000_0000 ∷ anchorWords n
 anchor-513 : Refuses (0 ∷ 0x1000_0000 ∷ anchorWords 513) 4 1026
 unfolding reading
 anchor-513 = refl
-
--- ---- files: a length that is no multiple of 4, before any bad word; a list too short for the result
-bytes-5 : (shapes : List ℕ) (anchors radii : List Float) → readAnswer (9 ∷ 9 ∷ 9 ∷ 9 ∷ 9 ∷ []) shapes anchors radii ≡ Refused 1 1
-unfolding readAnswer
-bytes-5 shapes anchors radii = refl
-
--- an open subpath without an anchor
-abbrev emptyJob : List ℕ
-emptyJob = 1 ∷ 0 ∷ 0 ∷ 0 ∷ 0 ∷ 0 ∷ 0 ∷ 16 ∷ 0 ∷ 0 ∷ 0 ∷ 240 ∷ []
-
-empty-read : readAnswer emptyJob (7 ∷ 7 ∷ []) [] [] ≡ Read 1 1 0
-unfolding readAnswer wordsOf tabulate anchorsOf
-empty-read = refl
-
-empty-shapes : readShapes emptyJob (7 ∷ 7 ∷ []) [] [] ≡ 0 ∷ 7 ∷ []
-unfolding readShapes wordsOf tabulate overwrite shapeWord anchorsOf
-empty-shapes = refl
-
-no-room : readAnswer emptyJob [] [] [] ≡ Refused 8 0
-unfolding readAnswer wordsOf tabulate anchorsOf
-no-room = refl

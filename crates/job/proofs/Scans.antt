@@ -8,8 +8,8 @@ use lib.Dec.{ltb, eqb}
 use lib.ListN.{length, length-append}
 use borrow.Author.Tests.{eqb-true, eqb-false, eq-eqb}
 use Rattle.job.specs.declared.order.Seen.{Seen}
-use Rattle.job.specs.declared.call.Scan.{Scan}
-use Rattle.job.specs.declared.call.Scan.the-variants.{Refused, Done}
+use Rattle.job.specs.declared.reading.Scan.{Scan}
+use Rattle.job.specs.declared.reading.Scan.the-variants.{Refused, Done}
 use Rattle.job.specs.Words.{Word, word}
 use Rattle.job.specs.Grammar.{anchorsOf}
 use Rattle.job.specs.Order.{member, Row, rows, afterIn, mayFollow, refusalOf, countSubpath, countAnchor, advance, Fair}

@@ -8,8 +8,8 @@ use lib.Dec.{ltb}
 use lib.ListN.{length}
 use borrow.Author.Tests.{lt-ltb, ltb-true}
 use Rattle.job.specs.declared.order.Seen.{Seen}
-use Rattle.job.specs.declared.call.Scan.{Scan}
-use Rattle.job.specs.declared.call.Scan.the-variants.{Refused, Done}
+use Rattle.job.specs.declared.reading.Scan.{Scan}
+use Rattle.job.specs.declared.reading.Scan.the-variants.{Refused, Done}
 use Rattle.job.specs.Words.{Word, word, split, joined, wordList}
 use Rattle.job.specs.Grammar.{Job, restThen, pairThen, radiusThen, anchorsThen, subpathsThen, end, spelled, written, anchorsOf, inRange, Within}
 use Rattle.job.specs.Order.{payloads, countSubpath, advance, start, Fair}

@@ -5,4 +5,3 @@ pub mod Order
 pub mod Content
 pub mod Reading
 pub mod Lists
-pub mod Call

@@ -4,8 +4,8 @@ use mathlib.Core.Bool.{cond}
 use mathlib.Core.List.{List, [], _∷_}
 use lib.Dec.{eqb}
 use Rattle.job.specs.declared.order.Seen.{Seen}
-use Rattle.job.specs.declared.call.Scan.{Scan}
-use Rattle.job.specs.declared.call.Scan.the-variants.{Refused, Done}
+use Rattle.job.specs.declared.reading.Scan.{Scan}
+use Rattle.job.specs.declared.reading.Scan.the-variants.{Refused, Done}
 use Rattle.job.specs.Words.{Word, wordList}
 use Rattle.job.specs.Grammar.{Job}
 use Rattle.job.specs.Order.{refusalOf, advance, start}

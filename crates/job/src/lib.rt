@@ -1,9 +1,11 @@
-// The job file (document 01, 'Job file and program'): little-endian words, read one by one into a drawing's lists.
-mod call;
-mod lists;
+// The job file (document 01, 'Job file and program'): little-endian words, and the order in which they may come.
 mod order;
+mod reading;
 mod words;
 
-pub use call::Job;
-pub use call::read;
+pub use order::Seen;
+pub use order::advance;
+pub use order::refusal_of;
+pub use reading::Scan;
+pub use words::number;
 pub use words::word_at;

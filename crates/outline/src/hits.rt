@@ -1,11 +1,12 @@
 // The exported hits and bounds.
 ghost use mathlib.Core.Path.{_≡_};
 ghost use Rattle.geom.specs.Point.{point};
-ghost use Rattle.hit.specs.Calls.{hitAnchorAnswer, hitSegmentAnswer, boundsAnswer};
+ghost use Rattle.hit.specs.Calls.{hitAnchorAnswer, hitSegmentAnswer};
+ghost use Rattle.bounds.specs.Calls.{boundsAnswer};
 ghost use Rattle.answers.specs.Answers.{hitAnchorCode, hitAnchorWords, hitSegmentCode, hitSegmentWords, parameterLeft, extentCode, extentWords, cornersLeft};
 use answers::tell;
+use bounds::Extent;
 use geom::P;
-use hit::Extent;
 use hit::HitAnchor;
 use hit::HitSegment;
 
@@ -81,7 +82,7 @@ pub extern "C" fn outline_bounds(
     ensures corners { λ _. ⌜ now (corners .exit) ≡ cornersLeft (boundsAnswer (now (shapes .entry)) (now (anchors .entry))) (now (corners .entry)) ⌝ }
     ensures answer { λ _. ⌜ now (answer .exit) ≡ extentWords (boundsAnswer (now (shapes .entry)) (now (anchors .entry))) ⌝ }
 {
-    let a = hit::bounds(shapes, anchors);
+    let a = bounds::bounds(shapes, anchors);
     match a {
         Extent::Refused(n, place) => {
             tell(place, 0, answer);

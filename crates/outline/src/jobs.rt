@@ -1,7 +1,7 @@
 // The exported calls on a job file.
 ghost use mathlib.Core.Path.{_≡_};
 ghost use Rattle.decimal.specs.Put.{Put};
-ghost use Rattle.job.specs.Call.{readAnswer, readShapes, readAnchors, readRadii};
+ghost use Rattle.job_calls.specs.Call.{readAnswer, readShapes, readAnchors, readRadii};
 ghost use Rattle.printing.specs.Printed.{printed};
 ghost use Rattle.answers.specs.Answers.{jobCode, jobWords};
 use answers::job_told;
@@ -20,7 +20,7 @@ pub extern "C" fn outline_read(
     ensures anchors { λ _. ⌜ now (anchors .exit) ≡ readAnchors (now (bytes .entry)) (now (shapes .entry)) (now (anchors .entry)) (now (radii .entry)) ⌝ }
     ensures radii { λ _. ⌜ now (radii .exit) ≡ readRadii (now (bytes .entry)) (now (shapes .entry)) (now (anchors .entry)) (now (radii .entry)) ⌝ }
 {
-    let a = job::read(bytes, shapes, anchors, radii);
+    let a = job_calls::read(bytes, shapes, anchors, radii);
     job_told(a, answer)
 }
 

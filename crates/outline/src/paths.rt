@@ -1,7 +1,7 @@
 // The exported calls on paths.
 ghost use mathlib.Core.Path.{_≡_};
 ghost use Rattle.cut_calls.specs.Calls.{cutAnswer, cutShapesLeft, cutAnchorsLeft};
-ghost use Rattle.svg.specs.Call.{toSvgDAnswer, toSvgDLeft, writeNumAnswer, writeNumLeft};
+ghost use Rattle.svg_calls.specs.Call.{toSvgDAnswer, toSvgDLeft, writeNumAnswer, writeNumLeft};
 ghost use Rattle.answers.specs.Answers.{textCode, textWords, outlineCode, outlineWords};
 use answers::outline_told;
 use answers::text_told;
@@ -36,7 +36,7 @@ pub extern "C" fn outline_to_svg_d(
     ensures answer { λ _. ⌜ now (answer .exit) ≡ textWords (toSvgDAnswer (now (shapes .entry)) (now (anchors .entry)) (now (out .entry))) ⌝ }
     ensures out { λ _. ⌜ now (out .exit) ≡ toSvgDLeft (now (shapes .entry)) (now (anchors .entry)) (now (out .entry)) ⌝ }
 {
-    let a = svg::to_svg_d(shapes, anchors, out);
+    let a = svg_calls::to_svg_d(shapes, anchors, out);
     text_told(a, answer)
 }
 
@@ -46,6 +46,6 @@ pub extern "C" fn outline_write_num(x: f64, out: &mut [u8], answer: &mut [u64; 4
     ensures answer { λ _. ⌜ now (answer .exit) ≡ textWords (writeNumAnswer x (now (out .entry))) ⌝ }
     ensures out { λ _. ⌜ now (out .exit) ≡ writeNumLeft x (now (out .entry)) ⌝ }
 {
-    let a = svg::write_num(x, out);
+    let a = svg_calls::write_num(x, out);
     text_told(a, answer)
 }

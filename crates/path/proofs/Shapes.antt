@@ -81,3 +81,8 @@ next-is n i h =
     (λ l. let e : i + 1 ≡ n = omega arith in rw (le-ltb (i + 1) n l, e, mod-self n))
     (λ l. rw (lt-ltb (i + 1) n l, mod-eq-of-lt l))
     (order n (i + 1))
+
+-- and they stay in the subpath
+pub next-below : (n a : ℕ) → a < n → next n a < n
+unfolding next
+next-below n a h = ⊎-elim (λ l. rw (le-ltb (a + 1) n l) (omega arith)) (λ l. rw (lt-ltb (a + 1) n l) l) (order n (a + 1))

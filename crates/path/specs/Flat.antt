@@ -4,9 +4,11 @@ use mathlib.Core.List.{List, [], _∷_}
 use lib.ListN.{length, getD, set}
 use lib.Ieee.{Float, nan}
 use Rattle.views.specs.View.{entry, overwrite}
+use Rattle.geom.specs.declared.point.P.{P}
 use Rattle.geom.specs.Point.{point}
 use Rattle.path.specs.declared.anchor.Anchor.{Anchor}
-use Rattle.path.specs.Anchor.{withoutHandles}
+use Rattle.path.specs.Anchor.{withoutHandles, segment}
+use Rattle.path.specs.Shape.{next}
 
 -- the anchor at place k
 abbrev pub anchorAt : List Float → ℕ → Anchor
@@ -16,6 +18,10 @@ anchorAt xs k =
       «h_in» = point (entry xs (k * 6 + 2)) (entry xs (k * 6 + 3));
       «h_out» = point (entry xs (k * 6 + 4)) (entry xs (k * 6 + 5));
     }
+
+-- the curve from anchor a of the n of a subpath, the first of which is at place k, to the next
+unfoldable pub curveOf : List Float → ℕ → ℕ → ℕ → List P
+curveOf anchors k n a = segment (anchorAt anchors (k + a)) (anchorAt anchors (k + next n a))
 
 -- the six numbers of an anchor
 unfoldable pub numbers : Anchor → List Float

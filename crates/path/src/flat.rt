@@ -1,9 +1,10 @@
 // Anchors in a flat list of numbers: p, h_in, h_out, x before y, six a place.
 ghost use mathlib.Core.Path.{_≡_};
-ghost use Prim.Native.Nat.{_+_, _*_, _≤_};
+ghost use Prim.Native.Nat.{_+_, _*_, _≤_, _<_};
 ghost use lib.ListN.{length};
-ghost use Rattle.path.specs.Flat.{anchorAt, putAnchor};
+ghost use Rattle.path.specs.Flat.{anchorAt, putAnchor, curveOf};
 use crate::anchor::Anchor;
+use crate::shape::next;
 use geom::P;
 
 // The anchor at place k.
@@ -40,4 +41,14 @@ pub fn put_anchor(out: &mut [f64], k: usize, a: Anchor)
     out[b + 3] = a.h_in.y;
     out[b + 4] = a.h_out.x;
     out[b + 5] = a.h_out.y;
+}
+
+// The curve from anchor a of the n of a subpath, the first of which is at place k, to the next.
+pub fn curve_at(anchors: &[f64], k: usize, n: usize, a: usize) -> [P; 4]
+    requires { ⌜ (a < n) × (k + n ≤ 1024) × ((k + n) * 6 ≤ length (now anchors)) ⌝ }
+    ensures { λ r. ⌜ r ≡ curveOf (now (anchors .entry)) k n a ⌝ }
+{
+    let from = anchor_at(anchors, k + a);
+    let to = anchor_at(anchors, k + next(n, a));
+    from.cubic(to)
 }

@@ -10,6 +10,7 @@ pub use distance::beyond;
 pub use distance::short;
 pub use distance::within;
 pub use flat::anchor_at;
+pub use flat::curve_at;
 pub use flat::put_anchor;
 pub use limit::Found;
 pub use limit::all_within;

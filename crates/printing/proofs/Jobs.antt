@@ -25,12 +25,12 @@ use Rattle.corner.specs.declared.cut.CornerKind.the-variants.{Round, Inverted, 
 use Rattle.cut_calls.specs.declared.kinds.Kind.the-variants.{Known}
 use Rattle.cut_calls.specs.CornerKinds.{kindOf}
 use Rattle.cache.proofs.Accepted.{Drawn}
-use Rattle.job.specs.declared.call.Job.the-variants as answer
+use Rattle.job_calls.specs.declared.call.Job.the-variants as answer
 use Rattle.job.specs.Words.{wordsOf}
 use Rattle.job.specs.Grammar.{Anchor, Subpath, Job, anchorsOf, Within}
 use Rattle.job.specs.Content.{shapeWord, shapeWords, radiusOf, numbersOf, jobAnchors, jobNumbers, jobRadii}
 use Rattle.job.specs.Reading.{Reading, refused, accepted, reading}
-use Rattle.job.specs.Call.{fileRead, roomFor, roomed, outcome, answerOf, shapesLeft, anchorsLeft, radiiLeft, readAnswer, readShapes, readAnchors, readRadii}
+use Rattle.job_calls.specs.Call.{fileRead, roomFor, roomed, outcome, answerOf, shapesLeft, anchorsLeft, radiiLeft, readAnswer, readShapes, readAnchors, readRadii}
 use Rattle.job.proofs.Theorems.{sound}
 use Rattle.job.proofs.Numbers.{job-numbers-in, job-radii-in, shape-count}
 use Rattle.job.proofs.Laying.{numbers-length}

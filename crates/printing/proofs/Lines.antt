@@ -14,10 +14,10 @@ use Rattle.decimal.specs.Put.{Put}
 use Rattle.path.specs.Flat.{anchorAt}
 use Rattle.path.specs.Shape.{total}
 use Rattle.call.proofs.Openings.{PathOpens}
-use Rattle.svg.specs.declared.calls.Answer.the-variants.{Refused, Accepted}
+use Rattle.svg_calls.specs.declared.calls.Answer.the-variants.{Refused, Accepted}
 use Rattle.svg.specs.Path.{textOf}
-use Rattle.svg.specs.Call.{toSvgDAnswer, toSvgDLeft, handedAnswer, handedLeft}
-use Rattle.svg.proofs.Outcomes.{without-room, put-in-room, as-handed}
+use Rattle.svg_calls.specs.Call.{toSvgDAnswer, toSvgDLeft, handedAnswer, handedLeft}
+use Rattle.svg_calls.proofs.Outcomes.{without-room, put-in-room, as-handed}
 use Rattle.printing.specs.Refused.{refusedText}
 use Rattle.printing.specs.Printed.{fitted}
 

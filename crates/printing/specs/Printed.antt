@@ -17,7 +17,7 @@ use Rattle.cache.specs.Cache.{cachedIn}
 use Rattle.cache.specs.Calls.{cutPlaces}
 use Rattle.job.specs.Content.{shapeWords, jobNumbers, jobRadii}
 use Rattle.job.specs.Reading.{Reading, refused, accepted}
-use Rattle.job.specs.Call.{fileRead}
+use Rattle.job_calls.specs.Call.{fileRead}
 use Rattle.printing.specs.Refused.{refusedText}
 
 -- a text that is longer than the buffer is refused

@@ -1,4 +1,5 @@
 pub mod Limits
+pub mod Orders
 pub mod Signs
 pub mod Sums
 pub mod Tables

@@ -18,7 +18,7 @@ pub enum Recut {
     Count(usize),
 }
 
-// Recuts in the scratch lists `made` and `made_flags`, tests, and copies. `rows`, `cuts` and `marks` are scratch of `cut::recut`.
+// Recuts in the scratch lists `made` and `made_flags`, tests, and copies. `rows`, `cuts` and `marks` are scratch of `passes::recut`.
 fn recut_through(
     anchors: &[f64],
     radii: &[f64],
@@ -41,7 +41,7 @@ fn recut_through(
     ensures numbers { λ _. ⌜ now (numbers .exit) ≡ recutNumbersLeft (now (anchors .entry)) (now (radii .entry)) kind sub w (now (numbers .entry)) ⌝ }
     ensures flags { λ _. ⌜ now (flags .exit) ≡ recutFlagsLeft (now (anchors .entry)) (now (radii .entry)) kind sub w (now (flags .entry)) ⌝ }
 {
-    let count = cut::recut(
+    let count = passes::recut(
         anchors,
         radii,
         kind,

@@ -19,7 +19,7 @@ use Rattle.assembly.specs.Assembled.{placeRead}
 use Rattle.assembly.proofs.Outlined.{outline-total}
 use Rattle.cut_calls.proofs.Handed.{outline-few}
 use Rattle.svg.specs.Path.{textOf}
-use Rattle.svg.specs.Call.{toSvgDVerdict}
+use Rattle.svg_calls.specs.Call.{toSvgDVerdict}
 use Rattle.svg.proofs.Texts.{text-same}
 use Rattle.cache.specs.Calls.{heldOutline, assembleVerdict, assembleAnswer, assembleShapes, assembleAnchors}
 use Rattle.session.specs.Drawing.{Drawing, Lent}

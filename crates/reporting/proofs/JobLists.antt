@@ -23,8 +23,8 @@ use Rattle.cache.proofs.Fitting.{fits-is}
 use Rattle.job.specs.Grammar.{Job, Within}
 use Rattle.job.specs.Content.{shapeWords, jobNumbers, jobRadii}
 use Rattle.job.specs.Reading.{Reading, refused, accepted}
-use Rattle.job.specs.Call.{fileRead, outcome, anchorsLeft, radiiLeft, readAnswer, readShapes, readAnchors, readRadii}
-use Rattle.job.specs.declared.call.Job.the-variants as answer
+use Rattle.job_calls.specs.Call.{fileRead, outcome, anchorsLeft, radiiLeft, readAnswer, readShapes, readAnchors, readRadii}
+use Rattle.job_calls.specs.declared.call.Job.the-variants as answer
 use Rattle.job.proofs.Numbers.{job-numbers-in, job-radii-in}
 use Rattle.session.specs.Drawing.{drawn}
 use Rattle.session.specs.Edits.{Call}

@@ -15,7 +15,7 @@ use Rattle.cache.specs.Cache.{cachedIn}
 use Rattle.job.specs.Grammar.{Job}
 use Rattle.job.specs.Content.{shapeWords, jobNumbers, jobRadii}
 use Rattle.job.specs.Reading.{Reading, refused, accepted}
-use Rattle.job.specs.Call.{fileRead}
+use Rattle.job_calls.specs.Call.{fileRead}
 use Rattle.replay.specs.Encoding.{callsOf, callsKnown}
 use Rattle.session.specs.declared.answers.Edited.{Edited}
 use Rattle.session.specs.declared.answers.Edited.the-variants.{Refused, Accepted}

@@ -11,7 +11,7 @@ use crate::outlines::put_outline;
 use call_lines::put_calls;
 use call_list::Calls;
 use call_list::read_calls;
-use job::Job;
+use job_calls::Job;
 use printing::put_refused;
 use replay::Replayed;
 
@@ -99,7 +99,7 @@ fn report_job(
     let mut shapes = [0u32; 32];
     let mut anchors = [0.0f64; 3072];
     let mut radii = [0.0f64; 512];
-    let read = job::read(bytes, &mut shapes, &mut anchors, &mut radii);
+    let read = job_calls::read(bytes, &mut shapes, &mut anchors, &mut radii);
     match read {
         Job::Refused(number, place) => refuse(out, number, place),
         Job::Read(kind, m, n) => report_drawing(

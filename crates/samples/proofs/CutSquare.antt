@@ -15,8 +15,8 @@ use Rattle.path.specs.Shape.{prev, next}
 use Rattle.corner.specs.declared.cut.Cut.{Cut}
 use Rattle.corner.specs.declared.cut.CornerKind.{CornerKind}
 use Rattle.corner.specs.declared.cut.CornerKind.the-variants.{Round, Inverted, Chamfer}
-use Rattle.corner.specs.Side.{isStraightSide, unit, towards, direction, lengthOf, atLength, atLine}
-use Rattle.corner.specs.Arc.{squareTo, arcHandle}
+use Rattle.side.specs.Side.{isStraightSide, unit, towards, direction, lengthOf, atLength, atLine}
+use Rattle.arc.specs.Arc.{squareTo, arcHandle}
 use Rattle.corner.specs.Corner.{cos, sin, sharp, meet, between, cornerOf, setback, radiusAtSetback, room, maxRadiusBeside}
 use Rattle.corner.specs.Cut.{straightSides, roundHandles, rounded, inverted, handles, cut}
 use Rattle.cut.specs.declared.places.Place.{Place}

@@ -40,7 +40,7 @@ use Rattle.job.specs.Number.{number}
 use Rattle.job.specs.Grammar.{Anchor, Job, anchorsOf}
 use Rattle.job.specs.Content.{pair, shapeWord, numbersOf, radiusOf, shapeWords, jobNumbers, jobRadii}
 use Rattle.job.specs.Reading.{reading, accepted}
-use Rattle.job.specs.Call.{fileRead}
+use Rattle.job_calls.specs.Call.{fileRead}
 use Rattle.printing.specs.Printed.{fitted, unlessBad, cutText, drawingText, readText, printed}
 use Rattle.samples.specs.Written.{ascii, bytesOf}
 use Rattle.samples.specs.Pieces.{squareJob}

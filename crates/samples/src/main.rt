@@ -6,7 +6,7 @@ use cubic_calls::Point;
 use geom::P;
 use path::Anchor;
 use session::Edited;
-use svg::Answer;
+use svg_calls::Answer;
 
 // The bits of x: all zero for a NaN, which no piece has.
 fn bits(x: f64) -> u64 {
@@ -96,7 +96,7 @@ fn text(a: Answer, bytes: &[u8]) {
 fn writes(label: &[u8], x: f64) {
     say(label);
     let mut bytes = [0u8; 128];
-    let a = svg::write_num(x, &mut bytes);
+    let a = svg_calls::write_num(x, &mut bytes);
     text(a, &bytes);
     say(b"\n");
 }
@@ -136,7 +136,7 @@ fn square(label: &[u8], radii: &[f64], kind: u32) {
     let a = cut_calls::cut_corners(&shapes, &anchors, radii, kind, &mut to_shapes, &mut to);
     outline(a);
     let mut bytes = [0u8; 128];
-    let b = svg::to_svg_d(&to_shapes, &to, &mut bytes);
+    let b = svg_calls::to_svg_d(&to_shapes, &to, &mut bytes);
     text(b, &bytes);
     say(b"\n");
 }

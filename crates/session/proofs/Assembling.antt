@@ -34,7 +34,7 @@ use Rattle.assembly.specs.Assembled.{placeRead, subpathOutline, outlineUpTo, ou
 use Rattle.assembly.proofs.Outlined.{outline-total, words-written}
 use Rattle.cut_calls.proofs.Handed.{outline-few}
 use Rattle.svg.specs.Path.{textOf}
-use Rattle.svg.specs.Call.{textRoom, left, toSvgDVerdict, toSvgDLeft}
+use Rattle.svg_calls.specs.Call.{textRoom, left, toSvgDVerdict, toSvgDLeft}
 use Rattle.cache.proofs.Reached.{start-number, end-number}
 use Rattle.session.specs.Drawing.{Drawing, Lent}
 use Rattle.cache.specs.Cache.{cachedIn}

@@ -11,7 +11,7 @@ use Rattle.refusal.specs.Order.{accepted}
 use Rattle.path.specs.Shape.{total}
 use Rattle.path.specs.Flat.{anchorAt, nth}
 use Rattle.call.specs.Tests.{roomFor}
-use Rattle.svg.specs.Call.{toSvgDVerdict, toSvgDLeft}
+use Rattle.svg_calls.specs.Call.{toSvgDVerdict, toSvgDLeft}
 use Rattle.cut.specs.Places.{placeNumbers}
 use Rattle.cut.specs.Rows.{flagOf}
 use Rattle.session.specs.declared.answers.Edited.the-variants.{Refused, Accepted}

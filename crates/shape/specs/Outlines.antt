@@ -9,7 +9,7 @@ use Rattle.geom.specs.Point.{point, origin, plus, minus, times}
 use Rattle.cubic.specs.Cubic.{CEPS}
 use Rattle.path.specs.declared.anchor.Anchor.{Anchor}
 use Rattle.path.specs.Anchor.{withoutHandles}
-use Rattle.corner.specs.Arc.{KAPPA}
+use Rattle.arc.specs.Arc.{KAPPA}
 
 abbrev pub four : Anchor → Anchor → Anchor → Anchor → List Anchor
 four a b c d = a ∷ b ∷ c ∷ d ∷ []

@@ -11,8 +11,8 @@ use Rattle.geom.specs.declared.point.P.{P}
 use Rattle.decimal.specs.Text.{floatText}
 use Rattle.decimal.specs.Put.{Put}
 use Rattle.decimal.proofs.Puts.{then, nothing}
-use Rattle.svg.specs.Grammar.{Command, move, line, curve, close}
-use Rattle.svg.specs.Text.{pairText, commandText, afterText, commandsText}
+use Rattle.svg_grammar.specs.Grammar.{Command, move, line, curve, close}
+use Rattle.svg_grammar.specs.Text.{pairText, commandText, afterText, commandsText}
 use Rattle.svg.specs.Path.{moveTo, lineTo, curveTo}
 use Rattle.svg.specs.Pieces.{glue}
 

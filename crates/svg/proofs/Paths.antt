@@ -12,10 +12,10 @@ use lib.Seq.{take-suc}
 use lib.IntN.{ℤ}
 use Rattle.path.specs.declared.anchor.Anchor.{Anchor}
 use Rattle.path.specs.Shape.{countOf, closedOf, total, wordAt, start}
-use Rattle.svg.specs.Grammar.{Command, close, begins}
-use Rattle.svg.specs.ReadsAs.{ReadsAs}
+use Rattle.svg_grammar.specs.Grammar.{Command, close, begins}
+use Rattle.svg_grammar.specs.ReadsAs.{ReadsAs}
 use Rattle.svg.specs.Path.{moveTo, lineTo, isStraight, bent, drawn, segments, closing, subpath, commandsFrom, commandsOf, textOf}
-use Rattle.svg.proofs.Parses.{reads-back}
+use Rattle.svg_grammar.proofs.Parses.{reads-back}
 
 -- ---- a segment
 pub drawn-line : (a b : Anchor) → isStraight a b ≡ true → drawn a b ≡ lineTo (b .p)

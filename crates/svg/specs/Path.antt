@@ -10,8 +10,8 @@ use Rattle.path.specs.declared.anchor.Anchor.{Anchor}
 use Rattle.path.specs.Anchor.{segment}
 use Rattle.path.specs.Shape.{countOf, closedOf}
 use Rattle.decimal.specs.Rounding.{inThousandths}
-use Rattle.svg.specs.Grammar.{Command, move, line, curve, close}
-use Rattle.svg.specs.Text.{commandsText}
+use Rattle.svg_grammar.specs.Grammar.{Command, move, line, curve, close}
+use Rattle.svg_grammar.specs.Text.{commandsText}
 
 -- ---- commands to points
 unfoldable pub moveTo : P → Command ℤ

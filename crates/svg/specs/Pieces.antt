@@ -10,8 +10,8 @@ use Rattle.real.specs.Limit.{inLimit}
 use Rattle.geom.specs.declared.point.P.{P}
 use Rattle.path.specs.declared.anchor.Anchor.{Anchor}
 use Rattle.path.specs.Flat.{anchorAt}
-use Rattle.svg.specs.Grammar.{Command}
-use Rattle.svg.specs.Text.{afterText, commandsText}
+use Rattle.svg_grammar.specs.Grammar.{Command}
+use Rattle.svg_grammar.specs.Text.{afterText, commandsText}
 
 -- what cs add to a text that has reached `at`: at 0 nothing stands before them
 unfoldable pub glue : ℕ → List (Command ℤ) → List ℕ

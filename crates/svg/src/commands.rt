@@ -5,7 +5,7 @@ ghost use Prim.Native.Nat.{_+_, _^_, _≤_, _<_};
 ghost use lib.Dec.{eqb};
 ghost use Rattle.decimal.specs.Text.{floatText};
 ghost use Rattle.decimal.specs.Put.{Put};
-ghost use Rattle.svg.specs.Grammar.{close};
+ghost use Rattle.svg_grammar.specs.Grammar.{close};
 ghost use Rattle.svg.specs.Path.{moveTo, lineTo, curveTo};
 ghost use Rattle.svg.specs.Pieces.{glue, PointIn};
 use decimal::put;

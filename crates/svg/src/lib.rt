@@ -1,8 +1,5 @@
-// SVG path data of an outline, written into a lent buffer.
-mod calls;
+// SVG path data of a path, put into a lent list.
 mod commands;
 mod outline;
 
-pub use calls::Answer;
-pub use calls::to_svg_d;
-pub use calls::write_num;
+pub use outline::put_path;

@@ -2,7 +2,7 @@
 use native.Mathlib.Omega.{arith}
 use borrow.Author.Needs.{needs}
 use mathlib.Core.List.{[], append-nil}
-use Rattle.svg.specs.Grammar.{close}
+use Rattle.svg_grammar.specs.Grammar.{close}
 use Rattle.svg.proofs.Glues.{glue-one, text-close}
 use Rattle.svg.proofs.commands.put_close.Statement.{statement}
 use Rattle.svg.proofs.commands.put_close.Tie as tie

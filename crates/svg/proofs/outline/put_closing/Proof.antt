@@ -7,7 +7,7 @@ use borrow.Author.Needs.{needs}
 use Rattle.cubic.specs.Sample.{straight}
 use Rattle.path.specs.Anchor.{segment}
 use Rattle.path.specs.Flat.{anchorAt}
-use Rattle.svg.specs.Grammar.{close}
+use Rattle.svg_grammar.specs.Grammar.{close}
 use Rattle.svg.specs.Path.{isStraight}
 use Rattle.svg.proofs.Glues.{glued}
 use Rattle.svg.proofs.Paths.{closing-single, closing-straight, closing-bent}

@@ -1,0 +1,4 @@
+pub mod Lent
+pub mod Growths
+pub mod Extents
+pub mod Within

@@ -1,0 +1,15 @@
+-- `side::side::Side::at_length` meets its contract. Assumes nothing.
+use Rattle.side.specs.Side.{atLength}
+use Rattle.side.proofs.side.Side.at_length.Statement.{statement}
+use Rattle.side.proofs.side.Side.at_length.Tie as tie
+
+returns : tie.Need-returns
+unfolding atLength
+returns c = rw (← c .before .before .is-straight-side .ensures, c .before .if1 .taken) (c .at-line .ensures)
+
+returns-2 : tie.Need-returns-2
+unfolding atLength
+returns-2 c = rw (← c .before .before .is-straight-side .ensures, c .before .if1 .left) (c .at-curve .ensures)
+
+pub at-length-spec : {M : Type 1} → statement M
+at-length-spec = tie.close (tie.spec (λ c κs. tt) (λ c κs. tt) returns (λ c κs. tt) returns-2)

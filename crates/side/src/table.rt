@@ -1,0 +1,111 @@
+// Lengths along a curve, by a running sum of its 128 chords.
+ghost use mathlib.Core.Path.{_≡_};
+ghost use Prim.Native.Nat.{_+_};
+ghost use lib.ListN.{length};
+ghost use lib.Ieee.{lt};
+ghost use Rattle.views.specs.View.{entry, overwrite};
+ghost use Rattle.views.specs.Search.{firstFalse};
+ghost use Rattle.real.specs.Sums.{running};
+ghost use Rattle.cubic.specs.Sample.{chord};
+ghost use Rattle.side.specs.Side.{chordOf, chordAt, share, paramAt, atCurve};
+use crate::side::At;
+use crate::side::unit;
+use geom::P;
+
+const CHORDS: usize = 128;
+
+// The sum of all chords. Each point of the curve serves two of them.
+pub fn curve_length(c: [P; 4]) -> f64
+    ensures { λ r. ⌜ r ≡ running (chord c 128) 128 ⌝ }
+{
+    let mut sum = 0.0;
+    let mut p = cubic::step_at(c, CHORDS, 0);
+    for k in 0..CHORDS {
+        let q = cubic::step_at(c, CHORDS, k + 1);
+        sum = sum + p.dist(q);
+        p = q;
+    }
+    sum
+}
+
+// The parameter at which the curve's chords add up to s: the table of sums is searched for the first not below s.
+pub fn param_at(c: [P; 4], s: f64) -> f64
+    ensures { λ r. ⌜ r ≡ paramAt (chord c 128) 128 s (chordAt (chord c 128) 128 s) ⌝ }
+{
+    let mut table = [0.0f64; 129];
+    sums_to(c, s, &mut table);
+    let k = chord_of(first_not_below(&table, s));
+    ((k - 1) as f64 + share(table[k - 1], table[k], s)) / CHORDS as f64
+}
+
+// The sums of the first 0, 1, .. chords, up to the end of the chord in which s falls. Later sums are not needed: no sum is below
+// the one before it, so the search ends there at the latest, and `share` takes the sums at the ends of that chord.
+fn sums_to(c: [P; 4], s: f64, table: &mut [f64])
+    requires { ⌜ length (now table) ≡ 129 ⌝ }
+    ensures { λ _. ⌜ now (table .exit) ≡ overwrite (chordAt (chord c 128) 128 s + 1) (running (chord c 128)) (now (table .entry)) ⌝ }
+{
+    let mut len = 0.0;
+    table[0] = len;
+    let mut p = cubic::step_at(c, CHORDS, 0);
+    for k in 0..CHORDS {
+        let q = cubic::step_at(c, CHORDS, k + 1);
+        len = len + p.dist(q);
+        table[k + 1] = len;
+        if !(len < s) {
+            return;
+        }
+        p = q;
+    }
+}
+
+// The first entry that is not below s, or 129.
+fn first_not_below(table: &[f64; 129], s: f64) -> usize
+    ensures { λ r. ⌜ r ≡ firstFalse (λ k. lt (entry (now (table .entry)) k) s) 129 ⌝ }
+{
+    let mut k: usize = 0;
+    while k < 129 {
+        if !(table[k] < s) {
+            return k;
+        }
+        k += 1;
+    }
+    k
+}
+
+// The chord, counted from 1, that follows so many sums below s.
+fn chord_of(below: usize) -> usize
+    ensures { λ r. ⌜ r ≡ chordOf 128 below ⌝ }
+{
+    if below < 1 {
+        return 1;
+    }
+    if CHORDS < below {
+        return CHORDS;
+    }
+    below
+}
+
+// How much of a chord between the sums l0 and l1 lies before s.
+fn share(l0: f64, l1: f64, s: f64) -> f64
+    ensures { λ r. ⌜ r ≡ share l0 l1 s ⌝ }
+{
+    let f = if l0 < l1 { (s - l0) / (l1 - l0) } else { 0.0 };
+    real::clamp(f, 0.0, 1.0)
+}
+
+// The place s along a curve; u stands in for the direction where the curve has none there.
+pub fn at_curve(c: [P; 4], s: f64, u: P) -> At
+    ensures { λ r. ⌜ r ≡ atCurve 128 c s u ⌝ }
+{
+    let t = param_at(c, s);
+    let p = cubic::cubic_at(c, t);
+    let d = cubic::deriv_at(c, t);
+    if path::beyond(d) {
+        return At {
+            t: t,
+            p: p,
+            dir: unit(d),
+        };
+    }
+    At { t: t, p: p, dir: u }
+}
