@@ -14,7 +14,6 @@ use Rattle.views.proofs.Laws.{order}
 use Rattle.views.proofs.Searches.{and-false}
 use Rattle.real.specs.Limit.{inLimit}
 use Rattle.refusal.specs.Order.{accepted, refused}
-use Rattle.path.specs.declared.anchor.Anchor.{Anchor}
 use Rattle.path.specs.declared.limit.Found.the-variants.{At, Nothing}
 use Rattle.path.specs.Flat.{anchorAt}
 use Rattle.path.specs.Shape.{countOf, total, wordAt, start}
@@ -28,11 +27,9 @@ use Rattle.cut.specs.Subpath.{viewOf}
 use Rattle.cut.specs.Places.{placeAt, placeNumbers}
 use Rattle.cut.specs.Recut.{reached}
 use Rattle.cut_calls.specs.PlainCut.{subAt}
-use Rattle.edit.specs.Limit.{within}
-use Rattle.edit.proofs.Bounded.{within-all}
 use Rattle.session.specs.Drawing.{Lent, viewIn}
 use Rattle.cache.specs.Cache.{cachedIn}
-use Rattle.session.specs.Edits.{Edit, anchorGood, placesOf}
+use Rattle.session.specs.Edits.{Edit, placesOf}
 use Rattle.session.specs.Calls.{writtenGood, recutGood, roomIn, editVerdict}
 use Rattle.session.specs.Model.{lengthsOf}
 use Rattle.session.proofs.Splits.{Like}
@@ -40,11 +37,6 @@ use Rattle.session.proofs.Recutting.{recut-place}
 use Rattle.session.proofs.Outcomes.{out-recut, out-pass}
 use Rattle.recutting.specs.Near.{reachedIn, goodNear, recutFound}
 use Rattle.cached.proofs.Openings.{ReadyFor}
-
--- ---- an anchor
-pub within-good : (a : Anchor) → within a ≡ anchorGood a
-unfolding anchorGood
-within-good a = within-all a
 
 -- ---- the code's test of the places within reach is the definition's; `shapes` are those of what the edit makes
 module _ (e : Edit) (shapes : List ℕ) (same : e .made .shapes ≡ shapes) (way : CornerKind) (s i reach : ℕ) (there : s < length shapes)

@@ -10,13 +10,14 @@ use lib.ListN.{length}
 use lib.Seq.{ext-getD}
 use lib.Ieee.{Float, nan}
 use borrow.Author.Tests.{eq-eqb, ne-eqb}
+use Rattle.path.specs.Limit.{anchorGood}
 use Rattle.views.specs.View.{entry}
 use Rattle.views.proofs.Laws.{order, same}
 use Rattle.refusal.specs.Order.{accepted, refused}
 use Rattle.path.specs.declared.anchor.Anchor.{Anchor}
 use Rattle.path.specs.declared.limit.Found.the-variants.{At, Nothing}
 use Rattle.path.specs.Flat.{anchorAt, numbers, putAnchor}
-use Rattle.path.specs.Shape.{countOf, closedOf, total, wordAt, start}
+use Rattle.path.specs.Shape.{countOf, closedOf, total, wordAt, start, hasAnchor}
 use Rattle.path.proofs.Places.{length-put, put-in, put-out, at-put, at-put-other, anchor-number, numbers-at}
 use Rattle.path.proofs.Limits.{GoodBelow}
 use Rattle.corner.specs.declared.cut.CornerKind.{CornerKind}
@@ -29,7 +30,7 @@ use Rattle.cut_calls.specs.PlainCut.{subAt}
 use Rattle.cut_calls.specs.CornerKinds.{kindOf, isKnown}
 use Rattle.session.specs.declared.answers.Edited.the-variants.{Refused, Accepted}
 use Rattle.session.specs.Drawing.{Lent, drawn, viewIn}
-use Rattle.session.specs.Edits.{move, Edit, anchorGood, hasAnchor, moved, editOf}
+use Rattle.session.specs.Edits.{move, Edit, moved, editOf}
 use Rattle.session.specs.Calls.{writtenGood, editVerdict, callAnswer, callLists}
 use Rattle.session.specs.Model.{recutCount}
 use Rattle.session.proofs.Judging.{and-right}

@@ -12,7 +12,7 @@ use Rattle.refusal.specs.Order.{Test, passes, fails, holds, judge, Verdict, acc
 use Rattle.refusal.proofs.Verdicts.{holds-true, holds-false, in-order}
 use Rattle.path.specs.declared.shape.Sized.the-variants.{Wrong}
 use Rattle.path.specs.declared.shape.Sized.the-variants as sized
-use Rattle.path.specs.Shape.{countOf, total, wordAt, start}
+use Rattle.path.specs.Shape.{countOf, total, wordAt, start, hasAnchor}
 use Rattle.path.specs.Limit.{placeIn}
 use Rattle.path.proofs.Shapes.{total-in}
 use Rattle.path.proofs.Limits.{GoodBelow}
@@ -23,7 +23,7 @@ use Rattle.call.proofs.Openings.{places-pass, open-lists, answer-refused, answe
 use Rattle.cut_calls.specs.declared.kinds.Kind.the-variants as kinds
 use Rattle.cut_calls.specs.CornerKinds.{kindOf, isKnown}
 use Rattle.session.specs.Drawing.{Lent, cornerKind}
-use Rattle.session.specs.Edits.{Edit, hasAnchor}
+use Rattle.session.specs.Edits.{Edit}
 use Rattle.cache.specs.Tests.{cacheSize}
 use Rattle.cache.proofs.Fitting.{size-says, size-refused}
 use Rattle.session.specs.Calls.{listsFit, editVerdict}

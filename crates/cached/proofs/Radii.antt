@@ -16,7 +16,7 @@ use Rattle.real.specs.Limit.{inLimit}
 use Rattle.refusal.specs.Order.{accepted, refused}
 use Rattle.path.specs.declared.limit.Found.the-variants.{At, Nothing}
 use Rattle.path.specs.Flat.{anchorAt}
-use Rattle.path.specs.Shape.{countOf, closedOf, total, wordAt, start}
+use Rattle.path.specs.Shape.{countOf, closedOf, total, wordAt, start, hasAnchor}
 use Rattle.path.proofs.Limits.{GoodBelow}
 use Rattle.corner.specs.declared.cut.CornerKind.{CornerKind}
 use Rattle.cut.specs.declared.subpath.Sub.{Sub}
@@ -27,7 +27,7 @@ use Rattle.cut.specs.Recut.{recutNumbers, recutFlags}
 use Rattle.cut_calls.specs.PlainCut.{subAt}
 use Rattle.session.specs.declared.answers.Edited.the-variants.{Refused, Accepted}
 use Rattle.session.specs.Drawing.{Lent, drawn, viewIn}
-use Rattle.session.specs.Edits.{setRadius, Edit, hasAnchor, resized, editOf}
+use Rattle.session.specs.Edits.{setRadius, Edit, resized, editOf}
 use Rattle.session.specs.Calls.{writtenGood, editVerdict, callAnswer, callLists}
 use Rattle.session.specs.Model.{recutCount}
 use Rattle.session.proofs.Splits.{Like}

@@ -1,11 +1,11 @@
 // The cached edit that moves an anchor: 7, 5, 6, 9.
 ghost use mathlib.Core.Path.{_≡_};
-ghost use Rattle.session.specs.Edits.{move, anchorGood};
+ghost use Rattle.path.specs.Limit.{anchorGood};
+ghost use Rattle.session.specs.Edits.{move};
 ghost use Rattle.session.specs.Calls.{callAnswer, callLists};
 ghost use Rattle.cached.specs.declared.opening.Ready.the-variants.{Known};
 ghost use Rattle.cached.specs.Opening.{lent, readyOf};
 use crate::opening::Ready;
-use crate::opening::has_anchor;
 use crate::opening::open_edit;
 use crate::opening::sub_at;
 use corner::CornerKind;
@@ -39,7 +39,7 @@ pub fn move_anchor(
         kind,
         numbers,
         flags,
-        edit::within(new),
+        new.in_limit(),
     );
     match ready {
         Ready::Refused(number, place) => Edited::Refused(number, place),
@@ -81,7 +81,7 @@ fn move_ready(
     ensures numbers { λ _. ⌜ now (numbers .exit) ≡ callLists (lent (now (shapes .entry)) (now (anchors .entry)) (now (radii .entry)) (now (numbers .entry)) (now (flags .entry))) kind (move s i new) .numbers ⌝ }
     ensures flags { λ _. ⌜ now (flags .exit) ≡ callLists (lent (now (shapes .entry)) (now (anchors .entry)) (now (radii .entry)) (now (numbers .entry)) (now (flags .entry))) kind (move s i new) .flags ⌝ }
 {
-    if !has_anchor(shapes, s, i) {
+    if !path::has_anchor(shapes, s, i) {
         return Edited::Refused(refusal::REFERENCE, 0);
     }
     let sub = sub_at(shapes, s);

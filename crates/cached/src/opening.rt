@@ -4,7 +4,6 @@ ghost use Prim.Native.Nat.{_≤_, _<_};
 ghost use lib.ListN.{length};
 ghost use Rattle.cut_calls.specs.PlainCut.{subAt};
 ghost use Rattle.edit.specs.Split.{hasSegment};
-ghost use Rattle.session.specs.Edits.{hasAnchor};
 ghost use Rattle.cached.specs.Opening.{lent, openedCached, readyOf};
 use call::Opened;
 use corner::CornerKind;
@@ -63,16 +62,6 @@ pub fn open_edit(
     }
 }
 
-// Whether subpath s has an anchor i.
-pub fn has_anchor(shapes: &[u32], s: usize, i: usize) -> bool
-    ensures { λ r. ⌜ r ≡ hasAnchor (now (shapes .entry)) s i ⌝ }
-{
-    if shapes.len() <= s {
-        return false;
-    }
-    i < path::count_of(shapes[s])
-}
-
 // Whether a segment starts at anchor a of subpath s.
 pub fn has_segment(shapes: &[u32], s: usize, a: usize) -> bool
     ensures { λ r. ⌜ r ≡ hasSegment (now (shapes .entry)) s a ⌝ }
@@ -89,7 +78,7 @@ pub fn sub_at(shapes: &[u32], s: usize) -> Sub
     requires { ⌜ (s < length (now shapes)) × (length (now shapes) ≤ 32) ⌝ }
     ensures { λ r. ⌜ r ≡ subAt (now (shapes .entry)) s ⌝ }
 {
-    let first = path::total_of(&shapes[..s]);
+    let first = path::start_of(shapes, s);
     Sub {
         first: first,
         n: path::count_of(shapes[s]),

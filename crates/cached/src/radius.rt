@@ -6,7 +6,6 @@ ghost use Rattle.session.specs.Calls.{callAnswer, callLists};
 ghost use Rattle.cached.specs.declared.opening.Ready.the-variants.{Known};
 ghost use Rattle.cached.specs.Opening.{lent, readyOf};
 use crate::opening::Ready;
-use crate::opening::has_anchor;
 use crate::opening::open_edit;
 use crate::opening::sub_at;
 use corner::CornerKind;
@@ -81,7 +80,7 @@ fn set_ready(
     ensures numbers { λ _. ⌜ now (numbers .exit) ≡ callLists (lent (now (shapes .entry)) (now (anchors .entry)) (now (radii .entry)) (now (numbers .entry)) (now (flags .entry))) kind (setRadius s i radius) .numbers ⌝ }
     ensures flags { λ _. ⌜ now (flags .exit) ≡ callLists (lent (now (shapes .entry)) (now (anchors .entry)) (now (radii .entry)) (now (numbers .entry)) (now (flags .entry))) kind (setRadius s i radius) .flags ⌝ }
 {
-    if !has_anchor(shapes, s, i) {
+    if !path::has_anchor(shapes, s, i) {
         return Edited::Refused(refusal::REFERENCE, 0);
     }
     let sub = sub_at(shapes, s);

@@ -8,6 +8,7 @@ use lib.Dec.{ltb, eqb}
 use lib.ListN.{length}
 use lib.Ieee.{Float, nan}
 use borrow.Author.Tests.{ltb-true}
+use Rattle.path.specs.Limit.{anchorGood}
 use Rattle.views.specs.View.{entry, overwrite}
 use Rattle.views.proofs.Laws.{at-overwrite, overwrite-cong}
 use Rattle.real.specs.Limit.{inLimit}
@@ -18,7 +19,7 @@ use Rattle.path.specs.Flat.{anchorAt, anchorNumbers}
 use Rattle.path.specs.Shape.{countOf, closedOf, total, wordAt, start, isSegment, next}
 use Rattle.path.proofs.Shapes.{total-in}
 use Rattle.path.proofs.Places.{anchor-number}
-use Rattle.path.proofs.Limits.{GoodBelow, first-is, none-is}
+use Rattle.path.proofs.Limits.{GoodBelow, first-is, none-is, good-cong, least-cong}
 use Rattle.corner.specs.declared.cut.CornerKind.{CornerKind}
 use Rattle.cut.specs.declared.subpath.Sub.{Sub}
 use Rattle.cut.specs.declared.subpath.Window.{Window}
@@ -29,15 +30,13 @@ use Rattle.cut.specs.Recut.{reached, recutNumbers, recutFlags}
 use Rattle.cut_calls.specs.PlainCut.{subAt}
 use Rattle.edit.specs.declared.splitting.Halved.{Halved}
 use Rattle.edit.specs.Gap.{gapped}
-use Rattle.edit.specs.Limit.{within}
 use Rattle.edit.specs.Split.{halves, shifted, splitAnchors, putsWithin, splitShapes, hasSegment}
-use Rattle.edit.proofs.Bounded.{good-cong, least-cong}
 use Rattle.edit.proofs.Gaps.{length-gap, gap-past}
 use Rattle.edit.proofs.Segments.{segment-says, next-other}
 use Rattle.session.specs.declared.answers.Edited.{Edited}
 use Rattle.session.specs.declared.answers.Edited.the-variants.{Refused, Accepted}
 use Rattle.session.specs.Drawing.{Lent, drawn, viewIn}
-use Rattle.session.specs.Edits.{split, Edit, anchorGood, segmentStart, segmentEnd, splitRadii, splitAt, editOf}
+use Rattle.session.specs.Edits.{split, Edit, segmentStart, segmentEnd, splitRadii, splitAt, editOf}
 use Rattle.session.specs.Calls.{writtenGood, recutGood, editVerdict, callAnswer, callLists}
 use Rattle.session.specs.Model.{lengthsOf, longFor, recutCount}
 use Rattle.session.proofs.Judging.{and-left, and-right}
@@ -54,7 +53,7 @@ use Rattle.recutting.specs.Near.{nearNumbers, nearFlags, recutFound, recutAnswe
 use Rattle.cached_split.specs.Splitting.{grown, putsFound, shiftedFlags}
 use Rattle.cached.proofs.Openings.{ReadyFor, ready-says, edit-closed}
 use Rattle.recutting.proofs.Recuts.{all-ends, told-bad, told-count, numbers-recut, flags-recut}
-use Rattle.cached.proofs.Edits.{within-good, near-bad, near-good}
+use Rattle.cached.proofs.Edits.{near-bad, near-good}
 use Rattle.cached_split.proofs.Makes.{gap-stood, length-shifted, flags-stood, flags-past}
 
 -- ---- the ends of the segment, by its subpath
@@ -205,11 +204,11 @@ module _ (l : Lent) (kind s a : ℕ) (t : Float) where
         written-same k = go (eqb k from) (eqb k (from + 1)) (eqb k (shifted from to))
           where
             go : (x y z : Bool)
-                → cond x (within (h .left)) (cond y (within (h .middle)) (cond z (within (h .right)) true))
+                → cond x (anchorGood (h .left)) (cond y (anchorGood (h .middle)) (cond z (anchorGood (h .right)) true))
                 ≡ (not (x || (y || z)) || anchorGood (cond x (h .left) (cond y (h .middle) (cond z (h .right) (anchorAt (l .anchors) (old from k))))))
-            go true y z = within-good (h .left)
-            go false true z = within-good (h .middle)
-            go false false true = within-good (h .right)
+            go true y z = refl
+            go false true z = refl
+            go false false true = refl
             go false false false = refl
 
         few-made : total (splitShapes (l .shapes) s) ≤ 512

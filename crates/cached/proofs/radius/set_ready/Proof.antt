@@ -6,10 +6,9 @@ use native.Mathlib.Omega.{arith}
 use lib.ListN.{length, length-set}
 use borrow.Author.Needs.{needs}
 use borrow.Author.Tests.{not-true, not-false}
-use Rattle.path.specs.Shape.{countOf, total, wordAt, start}
+use Rattle.path.specs.Shape.{countOf, total, wordAt, start, hasAnchor}
 use Rattle.cut_calls.specs.PlainCut.{subAt}
 use Rattle.real.specs.Limit.{inLimit}
-use Rattle.session.specs.Edits.{hasAnchor}
 use Rattle.cached.specs.Opening.{lent}
 use Rattle.cached.proofs.Openings.{Standing, standing}
 use Rattle.cached.proofs.Radii.{set-nowhere, set-refused, set-accepted}
