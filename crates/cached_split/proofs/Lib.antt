@@ -1,2 +1,3 @@
 pub mod Makes
 pub mod Splitting
+pub mod RowSplits

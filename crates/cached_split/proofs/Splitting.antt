@@ -10,7 +10,7 @@ use lib.Ieee.{Float, nan}
 use borrow.Author.Tests.{ltb-true}
 use Rattle.path.specs.Limit.{anchorGood}
 use Rattle.views.specs.View.{entry, overwrite}
-use Rattle.views.proofs.Laws.{at-overwrite, overwrite-cong}
+use Rattle.views.proofs.Laws.{at-overwrite}
 use Rattle.real.specs.Limit.{inLimit}
 use Rattle.refusal.specs.Order.{accepted, refused}
 use Rattle.path.specs.declared.limit.Found.{Found}
@@ -311,19 +311,16 @@ module _ (l : Lent) (kind s a : ℕ) (t : Float) where
                 unfolding splitShapes
                 left-shapes = split-shapes-left l kind s a t there seg small ∙ ap (λ x. x .shapes) (accepted-lists l kind (split s a t) accepts)
 
-                left-anchors : overwrite (m * 6 + 6) (entry ps) (l .anchors) ≡ callLists l kind (split s a t) .anchors
+                left-anchors : overwrite ((m + 1) * 6) (anchorNumbers (splitAnchors (anchorAt (l .anchors)) (segmentStart (l .shapes) s a) (segmentEnd (l .shapes) s a) t)) (l .anchors)
+                    ≡ callLists l kind (split s a t) .anchors
                 left-anchors =
-                    let n = made-total in
-                    let e : m * 6 + 6 ≡ total (splitShapes (l .shapes) s) * 6 = omega arith in
-                    overwrite-cong (m * 6 + 6) (entry ps) (anchorNumbers (splitAnchors (anchorAt (l .anchors)) from to t)) (l .anchors) (λ j i. anchors-are j (omega arith))
-                    ∙ ap (λ q. overwrite q (anchorNumbers (splitAnchors (anchorAt (l .anchors)) from to t)) (l .anchors)) e
+                    ap (λ q. overwrite (q * 6) (anchorNumbers (splitAnchors (anchorAt (l .anchors)) from to t)) (l .anchors)) (sym made-total)
                     ∙ split-anchors-left l kind s a t there seg small
                     ∙ ap (λ x. x .anchors) (accepted-lists l kind (split s a t) accepts)
 
-                left-radii : overwrite (m + 1) (entry rs) (l .radii) ≡ callLists l kind (split s a t) .radii
+                left-radii : overwrite (m + 1) (splitRadii (entry (l .radii)) (segmentStart (l .shapes) s a)) (l .radii) ≡ callLists l kind (split s a t) .radii
                 left-radii =
-                    overwrite-cong (m + 1) (entry rs) (splitRadii (entry (l .radii)) from) (l .radii) radii-are
-                    ∙ ap (λ q. overwrite q (splitRadii (entry (l .radii)) from) (l .radii)) (sym made-total)
+                    ap (λ q. overwrite q (splitRadii (entry (l .radii)) from) (l .radii)) (sym made-total)
                     ∙ split-radii-left l kind s a t there seg small
                     ∙ ap (λ x. x .radii) (accepted-lists l kind (split s a t) accepts)
 
@@ -376,34 +373,51 @@ module _ (l : Lent) (kind s a : ℕ) (t : Float) where
                 pub split-short : longFor (lengthsOf l) (m + 1) ≡ false → Left (Refused 8 0) l
                 split-short f = short (none .0) f
 
-                -- the scratch cache, of zeros before
-                module _ (ns₀ ns : List Float) (ns-long : m * 12 + 12 ≤ length ns₀) (cut : ns ≡ recutNumbersLeft ps rs way more win ns₀)
-                    (fs₀ fs : List ℕ) (fs-long : m + 1 ≤ length fs₀) (marked : fs ≡ recutFlagsLeft ps rs way more win fs₀) where
-                  sub-in : sub .first + sub .n ≤ m + 1
-                  unfolding subAt
-                  sub-in = omega (arith, made-total, total-in (splitShapes (l .shapes) s) s made-there)
+                -- with the drawing written, and the places recut over the cache shifted
+                pub split-accepted : longFor (lengthsOf l) (m + 1) ≡ true → (now : Lent) → now .shapes ≡ splitShapes (l .shapes) s
+                    → now .anchors ≡ overwrite ((m + 1) * 6) (anchorNumbers (splitAnchors (anchorAt (l .anchors)) (segmentStart (l .shapes) s a) (segmentEnd (l .shapes) s a) t)) (l .anchors)
+                    → now .radii ≡ overwrite (m + 1) (splitRadii (entry (l .radii)) (segmentStart (l .shapes) s a)) (l .radii)
+                    → now .numbers ≡ recutNumbersLeft ps rs way more (record { at = a + 1; reach = 4 }) (gapped (l .numbers) (segmentStart (l .shapes) s a) m 12)
+                    → now .flags ≡ recutFlagsLeft ps rs way more (record { at = a + 1; reach = 4 }) (shiftedFlags (l .flags) (segmentStart (l .shapes) s a) m)
+                    → Left (Accepted count (m + 1)) now
+                unfolding segmentStart
+                split-accepted fits now sh an ra nu fl =
+                    let f = none .0 in
+                    let xs = gapped (l .numbers) (start (l .shapes) s + a) m 12 in
+                    let fs = shiftedFlags (l .flags) (start (l .shapes) s + a) m in (
+                      rw (none .1) (answer f fits),
+                      sh ∙ left-shapes f fits,
+                      an ∙ left-anchors f fits,
+                      ra ∙ left-radii f fits,
+                      nu ∙ ap (λ q. recutNumbersLeft ps rs way q win xs) more-is ∙ numbers-recut ps rs way sub win f xs ∙ left-numbers f fits,
+                      fl ∙ ap (λ q. recutFlagsLeft ps rs way q win fs) more-is ∙ flags-recut ps rs way sub win f fs ∙ left-flags f fits,
+                    )
 
-                  ends : (xs : List Float) (gs : List ℕ) → (nearNumbers sub win ns xs ≡ recutNumbers v (sub .first) 4 (a + 1) xs) × (nearFlags sub win fs gs ≡ recutFlags v (sub .first) 4 (a + 1) gs)
+                -- the places recut in scratch lists for the whole drawing
+                module _ (ns₀ ns : List Float) (ns-long : m * 12 + 12 ≤ length ns₀) (cut : ns ≡ recutNumbersLeft ps rs way more (record { at = a + 1; reach = 4 }) ns₀)
+                    (fs₀ fs : List ℕ) (fs-long : m + 1 ≤ length fs₀) (marked : fs ≡ recutFlagsLeft ps rs way more (record { at = a + 1; reach = 4 }) fs₀) where
+                  more-in : more .first + more .n ≤ m + 1
+                  unfolding subAt
+                  more-in = rw more-is (omega (arith, made-total, total-in (splitShapes (l .shapes) s) s made-there))
+
+                  ends : (xs : List Float) (gs : List ℕ) → (nearNumbers more win ns xs ≡ recutNumbersLeft ps rs way more win xs) × (nearFlags more win fs gs ≡ recutFlagsLeft ps rs way more win gs)
                   ends xs gs =
-                      let i = sub-in in
-                      let f = none .0 in
-                      let x = cut ∙ ap (λ q. recutNumbersLeft ps rs way q win ns₀) more-is ∙ numbers-recut ps rs way sub win f ns₀ in
-                      let y = marked ∙ ap (λ q. recutFlagsLeft ps rs way q win fs₀) more-is ∙ flags-recut ps rs way sub win f fs₀ in
-                      let z = all-ends ps rs way sub win f ns₀ ns (omega arith) x fs₀ fs (omega arith) y xs gs in
-                      (z .1 ∙ numbers-recut ps rs way sub win f xs, z .2 ∙ flags-recut ps rs way sub win f gs)
+                      let i = more-in in
+                      let f = told-count ps rs way more win count (sym told ∙ b) .0 in
+                      let z = all-ends ps rs way more win f ns₀ ns (omega arith) (cut ∙ numbers-recut ps rs way more win f ns₀) fs₀ fs (omega arith) (marked ∙ flags-recut ps rs way more win f fs₀) xs gs in
+                      (z .1, z .2)
 
-                  pub split-done : longFor (lengthsOf l) (m + 1) ≡ true → (now : Lent) → now .shapes ≡ splitShapes (l .shapes) s → now .anchors ≡ overwrite (m * 6 + 6) (entry ps) (l .anchors)
-                      → now .radii ≡ overwrite (m + 1) (entry rs) (l .radii) → now .numbers ≡ nearNumbers more win ns (gapped (l .numbers) (here .first + a) m 12)
-                      → now .flags ≡ nearFlags more win fs (shiftedFlags (l .flags) (here .first + a) m) → Left (Accepted count (m + 1)) now
-                  unfolding subAt
-                  split-done fits now sh an ra nu fl =
-                      let f = none .0 in
-                      let e : here .first ≡ start (l .shapes) s = ap (λ x. x .first) is-sub in
-                      let g = ends (gapped (l .numbers) (start (l .shapes) s + a) m 12) (shiftedFlags (l .flags) (start (l .shapes) s + a) m) in (
-                        rw (none .1) (answer f fits),
-                        sh ∙ left-shapes f fits,
-                        an ∙ left-anchors f fits,
-                        ra ∙ left-radii f fits,
-                        nu ∙ ap (λ q. nearNumbers more win ns (gapped (l .numbers) (q + a) m 12)) e ∙ ap (λ q. nearNumbers q win ns (gapped (l .numbers) (start (l .shapes) s + a) m 12)) more-is ∙ g .0 ∙ left-numbers f fits,
-                        fl ∙ ap (λ q. nearFlags more win fs (shiftedFlags (l .flags) (q + a) m)) e ∙ ap (λ q. nearFlags q win fs (shiftedFlags (l .flags) (start (l .shapes) s + a) m)) more-is ∙ g .1 ∙ left-flags f fits,
-                      )
+                  pub split-done : longFor (lengthsOf l) (m + 1) ≡ true → (to : ℕ) → to ≡ next (here .n) a → (now : Lent) → now .shapes ≡ splitShapes (l .shapes) s
+                      → now .anchors ≡ overwrite ((m + 1) * 6) (anchorNumbers (splitAnchors (anchorAt (l .anchors)) (here .first + a) (here .first + to) t)) (l .anchors)
+                      → now .radii ≡ overwrite (m + 1) (splitRadii (entry (l .radii)) (here .first + a)) (l .radii)
+                      → now .numbers ≡ nearNumbers more (record { at = a + 1; reach = 4 }) ns (gapped (l .numbers) (here .first + a) m 12)
+                      → now .flags ≡ nearFlags more (record { at = a + 1; reach = 4 }) fs (shiftedFlags (l .flags) (here .first + a) m) → Left (Accepted count (m + 1)) now
+                  split-done fits to is-to now sh an ra nu fl =
+                      let e = start-is (l .shapes) s a here is-sub in
+                      let g = ends (gapped (l .numbers) (here .first + a) m 12) (shiftedFlags (l .flags) (here .first + a) m) in
+                      split-accepted fits now sh
+                      (an ∙ ap (λ q. overwrite ((m + 1) * 6) (anchorNumbers (splitAnchors (anchorAt (l .anchors)) q (here .first + to) t)) (l .anchors)) e
+                      ∙ ap (λ q. overwrite ((m + 1) * 6) (anchorNumbers (splitAnchors (anchorAt (l .anchors)) (segmentStart (l .shapes) s a) q t)) (l .anchors)) (end-is (l .shapes) s a here is-sub to is-to))
+                      (ra ∙ ap (λ q. overwrite (m + 1) (splitRadii (entry (l .radii)) q) (l .radii)) e)
+                      (nu ∙ g .0 ∙ ap (λ q. recutNumbersLeft ps rs way more win (gapped (l .numbers) q m 12)) e)
+                      (fl ∙ g .1 ∙ ap (λ q. recutFlagsLeft ps rs way more win (shiftedFlags (l .flags) q m)) e)

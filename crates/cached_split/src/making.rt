@@ -1,42 +1,67 @@
-// The drawing that a split makes, in scratch lists.
+// The drawing that a split makes: its anchors and radii put in a list in place, or copied to a scratch list first.
 ghost use mathlib.Core.Path.{_≡_};
-ghost use Prim.Native.Nat.{_+_, _*_, _≤_, _<_};
+ghost use Prim.Native.Nat.{ℕ, _+_, _*_, _≤_, _<_};
 ghost use lib.ListN.{length};
 ghost use Rattle.views.specs.View.{entry, overwrite};
 ghost use Rattle.path.specs.Flat.{anchorAt, anchorNumbers};
-ghost use Rattle.edit.specs.Split.{splitAnchors};
+ghost use Rattle.edit.specs.Split.{halves, splitAnchors};
 ghost use Rattle.session.specs.Edits.{splitRadii};
 ghost use Rattle.cached_split.specs.Splitting.{grown, putsFound};
 use cut::Sub;
+use edit::Halved;
 use path::Found;
 
-// The n anchors with the segment from place a to place b split, and the first of the three put that breaks the limit.
-pub fn make_anchors(
-    anchors: &[f64],
-    n: usize,
-    a: usize,
-    b: usize,
-    t: f64,
-    made: &mut [f64],
-) -> Found
-    requires { ⌜ (n < 512) × (a < n) × (b < n) × (a ≡ b → ⊥) × (n * 6 ≤ length (now anchors)) × (n * 6 + 6 ≤ length (now made)) ⌝ }
-    ensures found { λ r. ⌜ r ≡ putsFound (anchorAt (now (anchors .entry))) a b t (n + 1) ⌝ }
-    ensures made { λ _. ⌜ now (made .exit) ≡ overwrite ((n + 1) * 6) (anchorNumbers (splitAnchors (anchorAt (now (anchors .entry))) a b t)) (now (made .entry)) ⌝ }
+// The ends of the segment from place a to place b, and the anchor between them.
+fn halved(anchors: &[f64], a: usize, b: usize, t: f64) -> Halved
+    requires { ⌜ (a * 6 + 6 ≤ length (now anchors)) × (b * 6 + 6 ≤ length (now anchors)) ⌝ }
+    ensures { λ r. ⌜ r ≡ halves (anchorAt (now (anchors .entry)) a) (anchorAt (now (anchors .entry)) b) t ⌝ }
 {
-    let h = edit::halves(path::anchor_at(anchors, a), path::anchor_at(anchors, b), t);
-    views::copy(anchors, n * 6, made);
-    edit::put_halves(made, n, a, b, h);
+    edit::halves(path::anchor_at(anchors, a), path::anchor_at(anchors, b), t)
+}
+
+// The first of the three anchors put, where the segment from place a to place b is split, that breaks the limit.
+pub fn first_put(anchors: &[f64], a: usize, b: usize, t: f64) -> Found
+    requires { ⌜ (a < 512) × (b < 512) × (a ≡ b → ⊥) × (a * 6 + 6 ≤ length (now anchors)) × (b * 6 + 6 ≤ length (now anchors)) ⌝ }
+    ensures { λ r. ⌜ ((n : ℕ) → a < n → b < n → r ≡ putsFound (anchorAt (now (anchors .entry))) a b t (n + 1)) ⌝ }
+{
+    let h = halved(anchors, a, b, t);
     edit::first_out(h, a, edit::shifted(a, b))
 }
 
-// The n radii with radius 0 at the place after a.
+// Splits the segment from place a to place b of n anchors.
+pub fn put_anchors(anchors: &mut [f64], n: usize, a: usize, b: usize, t: f64)
+    requires { ⌜ (n < 512) × (a < n) × (b < n) × (a ≡ b → ⊥) × (n * 6 + 6 ≤ length (now anchors)) ⌝ }
+    ensures { λ _. ⌜ now (anchors .exit) ≡ overwrite ((n + 1) * 6) (anchorNumbers (splitAnchors (anchorAt (now (anchors .entry))) a b t)) (now (anchors .entry)) ⌝ }
+{
+    let h = halved(anchors, a, b, t);
+    edit::put_halves(anchors, n, a, b, h);
+}
+
+// The same of a copy.
+pub fn make_anchors(anchors: &[f64], n: usize, a: usize, b: usize, t: f64, made: &mut [f64])
+    requires { ⌜ (n < 512) × (a < n) × (b < n) × (a ≡ b → ⊥) × (n * 6 ≤ length (now anchors)) × (n * 6 + 6 ≤ length (now made)) ⌝ }
+    ensures { λ _. ⌜ now (made .exit) ≡ overwrite ((n + 1) * 6) (anchorNumbers (splitAnchors (anchorAt (now (anchors .entry))) a b t)) (now (made .entry)) ⌝ }
+{
+    views::copy(anchors, n * 6, made);
+    put_anchors(made, n, a, b, t);
+}
+
+// Puts radius 0 at the place after a of n radii.
+pub fn put_radius(radii: &mut [f64], n: usize, a: usize)
+    requires { ⌜ (n < 512) × (a < n) × (n + 1 ≤ length (now radii)) ⌝ }
+    ensures { λ _. ⌜ now (radii .exit) ≡ overwrite (n + 1) (splitRadii (entry (now (radii .entry))) a) (now (radii .entry)) ⌝ }
+{
+    edit::shift_up(radii, a, n, 1);
+    radii[a + 1] = 0.0;
+}
+
+// The same of a copy.
 pub fn make_radii(radii: &[f64], n: usize, a: usize, made: &mut [f64])
     requires { ⌜ (n < 512) × (a < n) × (n ≤ length (now radii)) × (n + 1 ≤ length (now made)) ⌝ }
     ensures { λ _. ⌜ now (made .exit) ≡ overwrite (n + 1) (splitRadii (entry (now (radii .entry))) a) (now (made .entry)) ⌝ }
 {
     views::copy(radii, n, made);
-    edit::shift_up(made, a, n, 1);
-    made[a + 1] = 0.0;
+    put_radius(made, n, a);
 }
 
 // The subpath with one anchor more.

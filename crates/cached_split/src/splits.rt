@@ -13,9 +13,11 @@ ghost use Rattle.session.specs.Calls.{callAnswer, callLists};
 ghost use Rattle.cached.specs.declared.opening.Ready.the-variants.{Known};
 ghost use Rattle.cached.specs.Opening.{lent, readyOf};
 ghost use Rattle.cached_split.specs.Splitting.{Begun, putsFound};
+use crate::making::first_put;
 use crate::making::grown;
 use crate::making::make_anchors;
 use crate::making::make_radii;
+use crate::rows::split_row;
 use crate::writing::has_room;
 use crate::writing::write_split;
 use cached::Ready;
@@ -103,6 +105,60 @@ fn split_ready(
     }
     if n >= 512 {
         return Edited::Refused(refusal::CAPACITY, 0);
+    }
+    split_begun(
+        shapes,
+        anchors,
+        radii,
+        kind,
+        numbers,
+        flags,
+        s,
+        a,
+        t,
+        n,
+        way,
+    )
+}
+
+// Of a segment that is there, with room for one anchor more: in a row of anchors where none of it is past an end of the subpath.
+fn split_begun(
+    shapes: &mut [u32],
+    anchors: &mut [f64],
+    radii: &mut [f64],
+    kind: u32,
+    numbers: &mut [f64],
+    flags: &mut [u32],
+    s: usize,
+    a: usize,
+    t: f64,
+    n: usize,
+    way: CornerKind,
+) -> Edited
+    requires { ⌜ Begun (lent (now shapes) (now anchors) (now radii) (now numbers) (now flags)) kind s a t n way ⌝ }
+    ensures answer { λ r. ⌜ r ≡ callAnswer (lent (now (shapes .entry)) (now (anchors .entry)) (now (radii .entry)) (now (numbers .entry)) (now (flags .entry))) kind (split s a t) ⌝ }
+    ensures shapes { λ _. ⌜ now (shapes .exit) ≡ callLists (lent (now (shapes .entry)) (now (anchors .entry)) (now (radii .entry)) (now (numbers .entry)) (now (flags .entry))) kind (split s a t) .shapes ⌝ }
+    ensures anchors { λ _. ⌜ now (anchors .exit) ≡ callLists (lent (now (shapes .entry)) (now (anchors .entry)) (now (radii .entry)) (now (numbers .entry)) (now (flags .entry))) kind (split s a t) .anchors ⌝ }
+    ensures radii { λ _. ⌜ now (radii .exit) ≡ callLists (lent (now (shapes .entry)) (now (anchors .entry)) (now (radii .entry)) (now (numbers .entry)) (now (flags .entry))) kind (split s a t) .radii ⌝ }
+    ensures numbers { λ _. ⌜ now (numbers .exit) ≡ callLists (lent (now (shapes .entry)) (now (anchors .entry)) (now (radii .entry)) (now (numbers .entry)) (now (flags .entry))) kind (split s a t) .numbers ⌝ }
+    ensures flags { λ _. ⌜ now (flags .exit) ≡ callLists (lent (now (shapes .entry)) (now (anchors .entry)) (now (radii .entry)) (now (numbers .entry)) (now (flags .entry))) kind (split s a t) .flags ⌝ }
+{
+    let sub = sub_at(shapes, s);
+    if 6 <= a && a + 7 < sub.n {
+        return split_row(
+            shapes,
+            anchors,
+            radii,
+            kind,
+            numbers,
+            flags,
+            s,
+            a,
+            t,
+            n,
+            way,
+            sub,
+        );
     }
     if n < 32 {
         return split_small(
@@ -255,10 +311,11 @@ fn split_through(
     let sub = sub_at(shapes, s);
     let from = sub.first + a;
     let to = sub.first + path::next(sub.n, a);
-    let bad = make_anchors(anchors, n, from, to, t, made_anchors);
+    let bad = first_put(anchors, from, to, t);
     if let Found::At(k) = bad {
         return Edited::Refused(refusal::RESULT, k);
     }
+    make_anchors(anchors, n, from, to, t, made_anchors);
     make_radii(radii, n, from, made_radii);
     split_made(
         shapes,
@@ -313,6 +370,7 @@ fn split_made(
     ensures flags { λ _. ⌜ now (flags .exit) ≡ callLists (lent (now (shapes .entry)) (now (anchors .entry)) (now (radii .entry)) (now (numbers .entry)) (now (flags .entry))) kind (split s a t) .flags ⌝ }
 {
     let from = sub.first + a;
+    let to = sub.first + path::next(sub.n, a);
     let at = a + 1;
     let places = n + 1;
     let more = grown(sub);
@@ -340,11 +398,11 @@ fn split_made(
                 flags,
                 s,
                 from,
+                to,
                 n,
+                t,
                 more,
                 w,
-                made_anchors,
-                made_radii,
                 made_numbers,
                 made_flags,
             );

@@ -1,13 +1,15 @@
--- A part of a list, by index, and a list with a part of it replaced. Assumes nothing.
+-- A part of a list, by index, the anchors in it, and a list with a part of it replaced. Assumes nothing.
 use mathlib.Core.Path.{_≡_, sym, ap, _∙_}
 use mathlib.Core.Logic.{⊎-elim}
 use mathlib.Core.List.{List, _++_}
-use Prim.Native.Nat.{ℕ, _+_, _-_, _≤_, _<_}
+use Prim.Native.Nat.{ℕ, _+_, _-_, _*_, _≤_, _<_}
 use native.Mathlib.Omega.{arith}
 use lib.ListN.{length, getD, take, drop, length-append, length-take, length-drop, take-append-drop, List·getD-append}
 use lib.Seq.{getD-take, getD-drop, getD-append-add}
-use Rattle.views.specs.View.{tabulate}
+use lib.Ieee.{Float}
+use Rattle.views.specs.View.{entry, tabulate}
 use Rattle.views.proofs.Laws.{order, as-tabulate}
+use Rattle.path.specs.Flat.{anchorAt}
 
 -- xs with ys in place of the k entries from a on
 abbrev pub replaced : {A : Type 0} → ℕ → ℕ → List A → List A → List A
@@ -18,6 +20,17 @@ at-part d a k xs i l = getD-take k (drop a xs) i d l ∙ getD-drop a xs i d
 
 pub length-part : {A : Type 0} (a k : ℕ) (xs : List A) → a + k ≤ length xs → length (take k (drop a xs)) ≡ k
 length-part a k xs h = let m = length-drop a xs in length-take k (drop a xs) ∙ omega arith
+
+-- the anchors of a list that holds those from place `from` on
+pub anchor-part : (A xs : List Float) (from m : ℕ) → ((i : ℕ) → i < m * 6 → entry A i ≡ entry xs (from * 6 + i)) → (j : ℕ) → j < m → anchorAt A j ≡ anchorAt xs (from + j)
+anchor-part A xs from m h j l =
+    let e0 : entry A (j * 6) ≡ entry xs ((from + j) * 6) = h (j * 6) (omega arith) ∙ ap (entry xs) (omega arith) in
+    let e1 : entry A (j * 6 + 1) ≡ entry xs ((from + j) * 6 + 1) = h (j * 6 + 1) (omega arith) ∙ ap (entry xs) (omega arith) in
+    let e2 : entry A (j * 6 + 2) ≡ entry xs ((from + j) * 6 + 2) = h (j * 6 + 2) (omega arith) ∙ ap (entry xs) (omega arith) in
+    let e3 : entry A (j * 6 + 3) ≡ entry xs ((from + j) * 6 + 3) = h (j * 6 + 3) (omega arith) ∙ ap (entry xs) (omega arith) in
+    let e4 : entry A (j * 6 + 4) ≡ entry xs ((from + j) * 6 + 4) = h (j * 6 + 4) (omega arith) ∙ ap (entry xs) (omega arith) in
+    let e5 : entry A (j * 6 + 5) ≡ entry xs ((from + j) * 6 + 5) = h (j * 6 + 5) (omega arith) ∙ ap (entry xs) (omega arith) in
+    rw (e0, e1, e2, e3, e4, e5)
 
 -- by itself
 pub replaced-self : {A : Type 0} (a k : ℕ) (xs : List A) → replaced a k (take k (drop a xs)) xs ≡ xs

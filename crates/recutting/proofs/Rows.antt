@@ -31,7 +31,7 @@ use Rattle.cache.proofs.Reached.{count-cong, reached-count}
 use Rattle.recutting.specs.declared.recutting.Recut.the-variants.{Bad, Count}
 use Rattle.recutting.specs.Near.{reachedIn, goodNear, recutFound, recutAnswer, recutAnswerOf, recutNumbersLeft, recutFlagsLeft}
 use Rattle.recutting.specs.Row.{Middle, rowFrom, rowSub, rowWindow}
-use Rattle.recutting.proofs.Parts.{replaced, at-part, length-part, replaced-self, as-replaced}
+use Rattle.recutting.proofs.Parts.{replaced, at-part, length-part, anchor-part, replaced-self, as-replaced}
 use Rattle.recutting.proofs.Recuts.{bad-ends, told-bad, told-count, numbers-recut, flags-recut}
 
 -- ---- where no step goes round the end, the places within reach are a band about c
@@ -126,14 +126,7 @@ module _ (sub : Sub) (w : Window) (mid : Middle sub w) where
     lo = w .at - (w .reach + 3)
 
     anchor-same : (j : ℕ) → j < m → anchorAt A j ≡ anchorAt anchors (from + j)
-    anchor-same j l =
-        let e0 : entry A (j * 6) ≡ entry anchors ((from + j) * 6) = same-anchors (j * 6) (omega arith) ∙ ap (entry anchors) (omega arith) in
-        let e1 : entry A (j * 6 + 1) ≡ entry anchors ((from + j) * 6 + 1) = same-anchors (j * 6 + 1) (omega arith) ∙ ap (entry anchors) (omega arith) in
-        let e2 : entry A (j * 6 + 2) ≡ entry anchors ((from + j) * 6 + 2) = same-anchors (j * 6 + 2) (omega arith) ∙ ap (entry anchors) (omega arith) in
-        let e3 : entry A (j * 6 + 3) ≡ entry anchors ((from + j) * 6 + 3) = same-anchors (j * 6 + 3) (omega arith) ∙ ap (entry anchors) (omega arith) in
-        let e4 : entry A (j * 6 + 4) ≡ entry anchors ((from + j) * 6 + 4) = same-anchors (j * 6 + 4) (omega arith) ∙ ap (entry anchors) (omega arith) in
-        let e5 : entry A (j * 6 + 5) ≡ entry anchors ((from + j) * 6 + 5) = same-anchors (j * 6 + 5) (omega arith) ∙ ap (entry anchors) (omega arith) in
-        rw (e0, e1, e2, e3, e4, e5)
+    anchor-same j l = anchor-part A anchors from m same-anchors j l
 
     is-row : Row v r lo
     unfolding viewOf
@@ -301,76 +294,63 @@ module _ (sub : Sub) (w : Window) (mid : Middle sub w) where
         go i true e = rw (cut-same i e)
         go i false e = refl
 
-  -- ---- the two ways to end, where the four lists lent are the parts from place `from` on
-  module _ (anchors radii xs : List Float) (fs : List ℕ) (kind : CornerKind) (ka kr kx kf : ℕ)
-      (ea : ka ≡ (2 * w .reach + 7) * 6) (er : kr ≡ 2 * w .reach + 7) (ex : kx ≡ (2 * w .reach + 7) * 12) (ef : kf ≡ 2 * w .reach + 7)
-      (long : (sub .first + sub .n) * 12 ≤ length xs) (longer : sub .first + sub .n ≤ length fs) where
-    abbrev A : List Float
-    A = take ka (drop (from * 6) anchors)
+    -- ---- the two answers
+    pub row-bad : (k : ℕ) → recutAnswerOf A R kind (rowSub w) (rowWindow w) ≡ Bad k → recutAnswerOf anchors radii kind sub w ≡ Bad (rowFrom sub w + k)
+    unfolding recutAnswerOf recutAnswer
+    row-bad k e = rw (found-bad k (told-bad A R kind row about k e) .1)
 
-    abbrev R : List Float
-    R = take kr (drop from radii)
-
-    abbrev X : List Float
-    X = take kx (drop (from * 12) xs)
-
-    abbrev F : List ℕ
-    F = take kf (drop from fs)
-
-    anchors-there : (i : ℕ) → i < m * 6 → entry A i ≡ entry anchors (from * 6 + i)
-    anchors-there i l = at-part nan (from * 6) ka anchors i (omega arith)
-
-    radii-there : (i : ℕ) → i < m → entry R i ≡ entry radii (from + i)
-    radii-there i l = at-part nan from kr radii i (omega arith)
-
-    in-list : (from + m) * 12 ≤ length xs
-    in-list = let l = mid .low in let g = mid .high in omega arith
-
-    in-flags : from + m ≤ length fs
-    in-flags = let l = mid .low in let g = mid .high in omega arith
-
-    numbers-left : replaced (from * 12) kx (recutNumbers (viewOf (anchorAt A) (entry R) (λ k. kind) 128 row) 0 (w .reach) (w .reach + 3) X) xs
-        ≡ recutNumbers (viewOf (anchorAt anchors) (entry radii) (λ k. kind) 128 sub) (sub .first) (w .reach) (w .at) xs
-    numbers-left =
-        let q = in-list in
-        ap (λ z. replaced (from * 12) z (recutNumbers (viewOf (anchorAt A) (entry R) (λ k. kind) 128 row) 0 (w .reach) (w .reach + 3) X) xs) ex
-        ∙ numbers-row anchors radii A R kind anchors-there radii-there xs X in-list
-        (length-part (from * 12) kx xs (omega arith) ∙ ex) (λ i l. at-part nan (from * 12) kx xs i (omega arith))
-
-    flags-left : replaced from kf (recutFlags (viewOf (anchorAt A) (entry R) (λ k. kind) 128 row) 0 (w .reach) (w .reach + 3) F) fs
-        ≡ recutFlags (viewOf (anchorAt anchors) (entry radii) (λ k. kind) 128 sub) (sub .first) (w .reach) (w .at) fs
-    flags-left =
-        let q = in-flags in
-        ap (λ z. replaced from z (recutFlags (viewOf (anchorAt A) (entry R) (λ k. kind) 128 row) 0 (w .reach) (w .reach + 3) F) fs) ef
-        ∙ flags-row anchors radii A R kind anchors-there radii-there fs F in-flags
-        (length-part from kf fs (omega arith) ∙ ef) (λ i l. at-part 0 from kf fs i (omega arith))
-
-    module _ (ys : List Float) (gs : List ℕ) (ey : ys ≡ recutNumbersLeft A R kind row about X) (eg : gs ≡ recutFlagsLeft A R kind row about F) where
-      pub row-bad : (k : ℕ) → recutAnswerOf A R kind row about ≡ Bad k
-          → (Bad (from + k) ≡ recutAnswerOf anchors radii kind sub w)
-          × (replaced (from * 12) kx ys xs ≡ recutNumbersLeft anchors radii kind sub w xs) × (replaced from kf gs fs ≡ recutFlagsLeft anchors radii kind sub w fs)
-      row-bad k e =
-          let h = told-bad A R kind row about k e in
-          let f = found-bad anchors radii A R kind anchors-there radii-there k h .1 in
-          let b = bad-ends anchors radii kind sub w (from + k) f xs fs in
-          let c = bad-ends A R kind row about k h X F in (
-            b .0,
-            ap (λ z. replaced (from * 12) kx z xs) (ey ∙ sym (c .1)) ∙ replaced-self (from * 12) kx xs ∙ b .1,
-            ap (λ z. replaced from kf z fs) (eg ∙ sym (c .2)) ∙ replaced-self from kf fs ∙ b .2,
-          )
-
-      pub row-all : (k : ℕ) → recutAnswerOf A R kind row about ≡ Count k
-          → (Count k ≡ recutAnswerOf anchors radii kind sub w)
-          × (replaced (from * 12) kx ys xs ≡ recutNumbersLeft anchors radii kind sub w xs) × (replaced from kf gs fs ≡ recutFlagsLeft anchors radii kind sub w fs)
-      unfolding recutAnswerOf recutAnswer
-      row-all k e =
-          let h = told-count A R kind row about k e in
-          let f = found-none anchors radii A R kind anchors-there radii-there (h .0) in (
-            ap Count (h .1 ∙ count-row anchors radii A R kind anchors-there radii-there) ∙ rw f,
-            ap (λ z. replaced (from * 12) kx z xs) (ey ∙ numbers-recut A R kind row about (h .0) X) ∙ numbers-left ∙ sym (numbers-recut anchors radii kind sub w f xs),
-            ap (λ z. replaced from kf z fs) (eg ∙ flags-recut A R kind row about (h .0) F) ∙ flags-left ∙ sym (flags-recut anchors radii kind sub w f fs),
-          )
+    pub row-count : (k : ℕ) → recutAnswerOf A R kind (rowSub w) (rowWindow w) ≡ Count k → recutAnswerOf anchors radii kind sub w ≡ Count k
+    unfolding recutAnswerOf recutAnswer
+    row-count k e = let h = told-count A R kind row about k e in rw (found-none (h .0)) (ap Count (sym (h .1 ∙ count-row)))
 
     -- the place that the row answers is in it
-    pub row-place : (k : ℕ) → recutAnswerOf A R kind row about ≡ Bad k → k < 2 * w .reach + 7
-    row-place k e = found-bad anchors radii A R kind anchors-there radii-there k (told-bad A R kind row about k e) .0
+    pub row-place : (k : ℕ) → recutAnswerOf A R kind (rowSub w) (rowWindow w) ≡ Bad k → k < 2 * w .reach + 7
+    row-place k e = found-bad k (told-bad A R kind row about k e) .0
+
+    -- ---- the two lists that are left: those of the row in the part that starts at place `from`
+    module _ (xs : List Float) (fs : List ℕ) (kx kf : ℕ) (ex : kx ≡ (2 * w .reach + 7) * 12) (ef : kf ≡ 2 * w .reach + 7)
+        (long : (sub .first + sub .n) * 12 ≤ length xs) (longer : sub .first + sub .n ≤ length fs) where
+      abbrev X : List Float
+      X = take kx (drop (from * 12) xs)
+
+      abbrev F : List ℕ
+      F = take kf (drop from fs)
+
+      in-list : (from + m) * 12 ≤ length xs
+      in-list = let l = mid .low in let g = mid .high in omega arith
+
+      in-flags : from + m ≤ length fs
+      in-flags = let l = mid .low in let g = mid .high in omega arith
+
+      numbers-all : replaced (from * 12) kx (recutNumbers r 0 (w .reach) (w .reach + 3) X) xs ≡ recutNumbers v (sub .first) (w .reach) (w .at) xs
+      numbers-all =
+          let q = in-list in
+          ap (λ z. replaced (from * 12) z (recutNumbers r 0 (w .reach) (w .reach + 3) X) xs) ex
+          ∙ numbers-row xs X in-list (length-part (from * 12) kx xs (omega arith) ∙ ex) (λ i l. at-part nan (from * 12) kx xs i (omega arith))
+
+      flags-all : replaced from kf (recutFlags r 0 (w .reach) (w .reach + 3) F) fs ≡ recutFlags v (sub .first) (w .reach) (w .at) fs
+      flags-all =
+          let q = in-flags in
+          ap (λ z. replaced from z (recutFlags r 0 (w .reach) (w .reach + 3) F) fs) ef
+          ∙ flags-row fs F in-flags (length-part from kf fs (omega arith) ∙ ef) (λ i l. at-part 0 from kf fs i (omega arith))
+
+      pub row-left-bad : (k : ℕ) → recutAnswerOf A R kind (rowSub w) (rowWindow w) ≡ Bad k
+          → (replaced (rowFrom sub w * 12) kx (recutNumbersLeft A R kind (rowSub w) (rowWindow w) (take kx (drop (rowFrom sub w * 12) xs))) xs ≡ recutNumbersLeft anchors radii kind sub w xs)
+          × (replaced (rowFrom sub w) kf (recutFlagsLeft A R kind (rowSub w) (rowWindow w) (take kf (drop (rowFrom sub w) fs))) fs ≡ recutFlagsLeft anchors radii kind sub w fs)
+      row-left-bad k e =
+          let h = told-bad A R kind row about k e in
+          let b = bad-ends anchors radii kind sub w (from + k) (found-bad k h .1) xs fs in
+          let c = bad-ends A R kind row about k h X F in (
+            ap (λ z. replaced (from * 12) kx z xs) (sym (c .1)) ∙ replaced-self (from * 12) kx xs ∙ b .1,
+            ap (λ z. replaced from kf z fs) (sym (c .2)) ∙ replaced-self from kf fs ∙ b .2,
+          )
+
+      pub row-left : (k : ℕ) → recutAnswerOf A R kind (rowSub w) (rowWindow w) ≡ Count k
+          → (replaced (rowFrom sub w * 12) kx (recutNumbersLeft A R kind (rowSub w) (rowWindow w) (take kx (drop (rowFrom sub w * 12) xs))) xs ≡ recutNumbersLeft anchors radii kind sub w xs)
+          × (replaced (rowFrom sub w) kf (recutFlagsLeft A R kind (rowSub w) (rowWindow w) (take kf (drop (rowFrom sub w) fs))) fs ≡ recutFlagsLeft anchors radii kind sub w fs)
+      row-left k e =
+          let h = told-count A R kind row about k e .0 in
+          let f = found-none h in (
+            ap (λ z. replaced (from * 12) kx z xs) (numbers-recut A R kind row about h X) ∙ numbers-all ∙ sym (numbers-recut anchors radii kind sub w f xs),
+            ap (λ z. replaced from kf z fs) (flags-recut A R kind row about h F) ∙ flags-all ∙ sym (flags-recut anchors radii kind sub w f fs),
+          )

@@ -32,17 +32,11 @@ returns-2 c =
     let h = split-full (lists o) (a .kind) (a .s) (a .a) (a .t) (a .n) (a .way) (o .pre) (has (c .before)) (omega arith) in
     (h .0, (h .1, (h .2, (h .3, (h .4, h .5)))))
 
-small-requires : tie.Need-split-small-requires
-small-requires c κs = (record { ready = c .before .before .before .before .before .before .before .before .before .before .before .before .before .before .before .pre; segment = has (c .before .before .before .before .before .before .before); few = omega arith }, omega arith)
-
-large-requires : tie.Need-split-large-requires
-large-requires c κs = record { ready = c .before .before .before .before .before .before .before .before .before .before .before .before .before .before .before .pre; segment = has (c .before .before .before .before .before .before .before); few = omega arith }
+begun-requires : tie.Need-split-begun-requires
+begun-requires c κs = record { ready = c .before .before .before .before .before .before .before .before .before .before .before .before .before .before .pre; segment = has (c .before .before .before .before .before .before); few = omega arith }
 
 returns-3 : tie.Need-returns-3
-returns-3 c = c .before .before .before .before .before .before .before .before .before .before .split-small .ensures
-
-returns-4 : tie.Need-returns-4
-returns-4 c = c .before .before .before .before .before .before .before .before .before .before .split-large .ensures
+returns-3 c = c .before .before .before .before .before .before .before .before .before .before .split-begun .ensures
 
 pub split-ready-spec : {M : Type 1} → statement M
 split-ready-spec =
@@ -53,17 +47,10 @@ split-ready-spec =
     returns
     (λ c. search needs)
     returns-2
-    small-requires
+    begun-requires
     (λ c. search needs)
     (λ c. search needs)
     (λ c. search needs)
     (λ c. search needs)
     (λ c. search needs)
-    returns-3
-    large-requires
-    (λ c. search needs)
-    (λ c. search needs)
-    (λ c. search needs)
-    (λ c. search needs)
-    (λ c. search needs)
-    returns-4)
+    returns-3)

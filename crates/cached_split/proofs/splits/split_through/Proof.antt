@@ -65,52 +65,65 @@ add-to c =
     let n = c .before .before .before .before .before .before .before .before .before .before .before .before .before .before .pre .0 .few in
     record { fits = omega arith }
 
-make-anchors-requires : tie.Need-make-anchors-requires
-make-anchors-requires c κs =
-    let o = c .before .before .before .before .before .before .before .before .before .before .before .before .before .before .before .before in
+first-put-requires : tie.Need-first-put-requires
+first-put-requires c κs =
+    let o = c .before .before .before .before .before .before .before .before .before .before .before .before .before .before .before in
+    let h = here (c .before .before .before .before) in
+    let e = c .before .before .next .ensures in
+    let f = h .from in
+    let g = h .to in
+    let n = o .pre .0 .few in
+    let b = place o .anchors in
+    (omega arith, omega arith, (λ q. h .other (omega arith)), omega arith, omega arith)
+
+-- the first of the anchors put that breaks the limit
+told : (c : tie.After-first-put) → let a = c .before .before .before .before .before .before .before .before .before .before .before .before .before .before .before .before .args in c .first-put .result ≡ putsFound (anchorAt (a .anchors .now)) (segmentStart (a .shapes .now) (a .s) (a .a)) (segmentEnd (a .shapes .now) (a .s) (a .a)) (a .t) (a .n + 1)
+told c =
+    let a = c .before .before .before .before .before .before .before .before .before .before .before .before .before .before .before .before .args in
     let h = here (c .before .before .before .before .before) in
     let e = c .before .before .before .next .ensures in
-    let t = h .to in
-    let a = place o .anchors in
-    (o .pre .0 .few, h .from, omega arith, (λ x. h .other (omega arith)), a, o .pre .1 .0)
-
-told : (c : tie.After-make-anchors) → let a = c .before .before .before .before .before .before .before .before .before .before .before .before .before .before .before .before .before .args in
-    c .make-anchors .result ≡ putsFound (anchorAt (a .anchors .now)) (segmentStart (a .shapes .now) (a .s) (a .a)) (segmentEnd (a .shapes .now) (a .s) (a .a)) (a .t) (a .n + 1)
-told c =
-    let a = c .before .before .before .before .before .before .before .before .before .before .before .before .before .before .before .before .before .args in
-    found-read (a .shapes .now) (a .s) (a .a) _ (c .before .before .before .before .before .before .sub-at .ensures) (a .anchors .now) (a .n) _ (a .t) (c .before .before .before .before .next .ensures) _ (c .make-anchors .ensures .0)
+    let g = h .to in
+    found-read (a .shapes .now) (a .s) (a .a) _ (c .before .before .before .before .before .sub-at .ensures) (a .anchors .now) (a .n) _ (a .t) e _ (c .first-put .ensures (a .n) (h .from) (omega arith))
 
 returns : tie.Need-returns
 returns c =
-    let o = c .before .before .before .before .before .before .before .before .before .before .before .before .before .before .before .before .before .before .before .before .before .before in
+    let o = c .before .before .before .before .before .before .before .before .before .before .before .before .before .before .before .before .before .before .before in
     let a = o .args in
-    let h = split-put-bad (lists o) (a .kind) (a .s) (a .a) (a .t) (a .n) (a .way) (o .pre .0 .ready) (o .pre .0 .segment) (o .pre .0 .few) _ (sym (told (c .before .before .before .before .before)) ∙ c .before .bad .given .1) in
+    let h = split-put-bad (lists o) (a .kind) (a .s) (a .a) (a .t) (a .n) (a .way) (o .pre .0 .ready) (o .pre .0 .segment) (o .pre .0 .few) _ (sym (told (c .before .before .before)) ∙ c .before .bad .given .1) in
     (h .0, (h .1, (h .2, (h .3, (h .4, h .5)))))
+
+make-anchors-requires : tie.Need-make-anchors-requires
+make-anchors-requires c κs =
+    let o = c .before .before .before .before .before .before .before .before .before .before .before .before .before .before .before .before .before .before .before .before in
+    let h = here (c .before .before .before .before .before .before .before .before .before) in
+    let e = c .before .before .before .before .before .before .before .next .ensures in
+    let g = h .to in
+    (o .pre .0 .few, h .from, omega arith, (λ q. h .other (omega arith)), place o .anchors, o .pre .1 .0)
 
 make-radii-requires : tie.Need-make-radii-requires
 make-radii-requires c κs =
-    let o = c .before .before .before .before .before .before .before .before .before .before .before .before .before .before .before .before .before .before .before .before .before .before .before in
-    (o .pre .0 .few, here (c .before .before .before .before .before .before .before .before .before .before .before .before) .from, place o .radii, o .pre .1 .1)
+    let o = c .before .before .before .before .before .before .before .before .before .before .before .before .before .before .before .before .before .before .before .before .before .before .before .before .before in
+    (o .pre .0 .few, here (c .before .before .before .before .before .before .before .before .before .before .before .before .before .before) .from, place o .radii, o .pre .1 .1)
 
 split-made-requires : tie.Need-split-made-requires
 split-made-requires c κs =
-    let o = c .before .before .before .before .before .before .before .before .before .before .before .before .before .before .before .before .before .before .before .before .before .before .before .before .before .before .before .before .before .before .before .before .before .before .before in
+    let o = c .before .before .before .before .before .before .before .before .before .before .before .before .before .before .before .before .before .before .before .before .before .before .before .before .before .before .before .before .before .before .before .before .before .before .before .before .before in
     let a = o .args in
     let p = o .pre in
-    let k = c .before .before .before .before .before .before .before .before .before .before .before .before .before .before .before .before .before .before .make-anchors .kept .1 .1 .1 .1 .1 .0 in
+    let k = c .before .before .before .before .before .before .before .before .before .before .before .before .before .before .before .before .make-anchors .kept .1 .1 .1 .1 .1 .0 in
     let q = p .1 .0 in
     let u = c .before .before .before .before .before .before .before .before .before .before .before .make-radii .kept .1 .1 .1 .0 in
     let v = p .1 .1 in
-    let is = c .before .before .before .before .before .before .before .before .before .before .before .before .before .before .before .before .before .before .before .before .before .before .before .before .sub-at .ensures in (
+    let is = c .before .before .before .before .before .before .before .before .before .before .before .before .before .before .before .before .before .before .before .before .before .before .before .before .before .before .sub-at .ensures in (
       p .0,
       (
         (omega arith, omega arith, p .1 .2, p .1 .3),
         (
           is,
           (
-            sym (told (c .before .before .before .before .before .before .before .before .before .before .before .before .before .before .before .before .before .before)) ∙ c .before .before .before .before .before .before .before .before .before .before .before .before .before .before .enum-told .given .1,
+            sym (told (c .before .before .before .before .before .before .before .before .before .before .before .before .before .before .before .before .before .before .before .before .before)) ∙ c .before .before .before .before .before .before .before .before .before .before .before .before .before .before .before .before .before .before .before .enum-told .given .1,
             (
-              anchors-read (a .shapes .now) (a .s) (a .a) _ is (a .anchors .now) (a .made-anchors .now) _ (a .n) _ (a .t) (c .before .before .before .before .before .before .before .before .before .before .before .before .before .before .before .before .before .before .before .before .before .before .next .ensures) (c .before .before .before .before .before .before .before .before .before .before .before .before .before .before .before .before .before .before .make-anchors .ensures .1) q,
+              anchors-read (a .shapes .now) (a .s) (a .a) _ is (a .anchors .now) (a .made-anchors .now) _ (a .n) _ (a .t) (c .before .before .before .before .before .before .before .before .before .before .before .before .before .before .before .before .before .before .before .before .before .before .before .before .next .ensures) (c .before .before .before .before .before .before .before .before .before .before .before .before .before .before .before .before .make-anchors .ensures) q,
               radii-read (a .shapes .now) (a .s) (a .a) _ is (a .radii .now) (a .made-radii .now) _ (a .n) (c .before .before .before .before .before .before .before .before .before .before .before .make-radii .ensures) v,
             ),
           ),
@@ -129,13 +142,13 @@ split-through-spec =
     add-from
     next-requires
     add-to
-    make-anchors-requires
-    (λ c. search needs)
+    first-put-requires
     (λ c. search needs)
     (λ c. search needs)
     (λ c. search needs)
     returns
     (λ c. search needs)
+    make-anchors-requires
     make-radii-requires
     split-made-requires
     (λ c. search needs)
