@@ -19,7 +19,7 @@ use Rattle.call.proofs.Openings.{places-fail, places-pass, open-all, DrawingOpe
 use Rattle.cut_calls.specs.declared.kinds.Kind.{Kind}
 use Rattle.cut_calls.specs.declared.kinds.Kind.the-variants.{Known, Unknown}
 use Rattle.cut_calls.specs.CornerKinds.{kindOf, isKnown}
-use Rattle.cut_calls.specs.Calls.{cutVerdict}
+use Rattle.cut_corners.specs.Calls.{cutVerdict}
 use Rattle.cache.specs.Tests.{cacheFits}
 use Rattle.cache.specs.Calls.{buildVerdict}
 

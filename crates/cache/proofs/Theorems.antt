@@ -34,10 +34,10 @@ use Rattle.call.specs.Answers.{outlineAnswer, listLeft}
 use Rattle.call.proofs.Openings.{places-fail, places-pass}
 use Rattle.cut_calls.specs.PlainCut.{subAt, viewAt, cutUpTo, Laid}
 use Rattle.cut_calls.specs.Made.{madeVerdict}
-use Rattle.cut_calls.specs.Calls.{cutVerdict, cutAnswer, cutShapesLeft, cutAnchorsLeft}
+use Rattle.cut_corners.specs.Calls.{cutVerdict, cutAnswer, cutShapesLeft, cutAnchorsLeft}
 use Rattle.cut_calls.proofs.Laying.{size-at}
 use Rattle.cut_calls.proofs.Gathered.{answer-laid, shapes-laid, anchors-laid}
-use Rattle.cut_calls.proofs.Outcomes.{as-made, answer-handed, shapes-handed, anchors-handed}
+use Rattle.cut_corners.proofs.Outcomes.{as-made, answer-handed, shapes-handed, anchors-handed}
 use Rattle.cache.specs.Cache.{placeOfPath, cachedNumbers, cachedFlags, cachedIn}
 use Rattle.cache.specs.Tests.{cacheFits, cacheVerdict}
 use Rattle.cache.specs.Calls.{

@@ -2,4 +2,3 @@ pub mod Laying
 pub mod Handed
 pub mod Gathered
 pub mod Counts
-pub mod Outcomes

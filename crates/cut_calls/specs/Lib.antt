@@ -1,4 +1,3 @@
 pub mod CornerKinds
 pub mod PlainCut
 pub mod Made
-pub mod Calls

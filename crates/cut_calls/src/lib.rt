@@ -1,10 +1,9 @@
-// The call `cut_corners`: a drawing's corners cut, to lent lists; and what the calls on the cut cache share with it.
-mod calls;
+// What the calls that cut a drawing share, the plain cut and those on the cut cache: the kinds of cut by number, every subpath cut, and
+// the outline of the places handed over.
 mod drawing;
 mod handing;
 mod kinds;
 
-pub use calls::cut_corners;
 pub use drawing::lay_drawing;
 pub use handing::hand_over;
 pub use kinds::Kind;

@@ -1,6 +1,6 @@
 // The exported calls on paths.
 ghost use mathlib.Core.Path.{_≡_};
-ghost use Rattle.cut_calls.specs.Calls.{cutAnswer, cutShapesLeft, cutAnchorsLeft};
+ghost use Rattle.cut_corners.specs.Calls.{cutAnswer, cutShapesLeft, cutAnchorsLeft};
 ghost use Rattle.svg_calls.specs.Call.{toSvgDAnswer, toSvgDLeft, writeNumAnswer, writeNumLeft};
 ghost use Rattle.answers.specs.Answers.{textCode, textWords, outlineCode, outlineWords};
 use answers::outline_told;
@@ -21,7 +21,7 @@ pub extern "C" fn outline_cut_corners(
     ensures shapes { λ _. ⌜ now («to_shapes» .exit) ≡ cutShapesLeft (now (shapes .entry)) (now (anchors .entry)) (now (radii .entry)) kind (now («to_shapes» .entry)) (now (to .entry)) ⌝ }
     ensures anchors { λ _. ⌜ now (to .exit) ≡ cutAnchorsLeft (now (shapes .entry)) (now (anchors .entry)) (now (radii .entry)) kind (now («to_shapes» .entry)) (now (to .entry)) ⌝ }
 {
-    let a = cut_calls::cut_corners(shapes, anchors, radii, kind, to_shapes, to);
+    let a = cut_corners::cut_corners(shapes, anchors, radii, kind, to_shapes, to);
     outline_told(a, answer)
 }
 

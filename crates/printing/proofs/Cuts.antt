@@ -37,8 +37,8 @@ use Rattle.assembly.proofs.Outlined.{outline-total, words-length, words-written
 use Rattle.cut_calls.specs.PlainCut.{subAt, viewAt, cutUpTo, cutShape}
 use Rattle.cut_calls.specs.Made.{madeVerdict}
 use Rattle.cut_calls.specs.CornerKinds.{kindOf}
-use Rattle.cut_calls.specs.Calls.{cutOutline, cutWords, cutVerdict, cutAnswer, cutShapesLeft, cutAnchorsLeft}
-use Rattle.cut_calls.proofs.Outcomes.{as-made}
+use Rattle.cut_corners.specs.Calls.{cutOutline, cutWords, cutVerdict, cutAnswer, cutShapesLeft, cutAnchorsLeft}
+use Rattle.cut_corners.proofs.Outcomes.{as-made}
 use Rattle.cut_calls.proofs.Handed.{outline-few}
 use Rattle.svg.specs.Path.{textOf}
 use Rattle.svg.proofs.Texts.{text-same}

@@ -12,7 +12,7 @@ use Rattle.path.specs.Flat.{nth}
 use Rattle.call.specs.Tests.{places}
 use Rattle.svg.specs.Path.{textOf}
 use Rattle.cut_calls.specs.CornerKinds.{kindOf}
-use Rattle.cut_calls.specs.Calls.{cutOutline, cutWords}
+use Rattle.cut_corners.specs.Calls.{cutOutline, cutWords}
 use Rattle.cache.specs.Cache.{cachedIn}
 use Rattle.cache.specs.Calls.{cutPlaces}
 use Rattle.job.specs.Content.{shapeWords, jobNumbers, jobRadii}

@@ -29,7 +29,7 @@ use Rattle.cut.specs.Outline.{joined, anchorsAt, heldBack, assembled, cutCorner
 use Rattle.cut_calls.specs.declared.kinds.Kind.the-variants.{Known}
 use Rattle.cut_calls.specs.CornerKinds.{kindOf}
 use Rattle.cut_calls.specs.PlainCut.{subAt, viewAt, cutUpTo, cutShape}
-use Rattle.cut_calls.specs.Calls.{cutOutline, cutWords}
+use Rattle.cut_corners.specs.Calls.{cutOutline, cutWords}
 use Rattle.cache.specs.Cache.{placeOfPath, cachedIn}
 use Rattle.cache.specs.Calls.{cutPlaces}
 use Rattle.decimal.specs.Rounding.{inThousandths}

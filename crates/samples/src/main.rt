@@ -133,7 +133,7 @@ fn square(label: &[u8], radii: &[f64], kind: u32) {
     ];
     let mut to_shapes = [0u32; 1];
     let mut to = [0.0f64; 48];
-    let a = cut_calls::cut_corners(&shapes, &anchors, radii, kind, &mut to_shapes, &mut to);
+    let a = cut_corners::cut_corners(&shapes, &anchors, radii, kind, &mut to_shapes, &mut to);
     outline(a);
     let mut bytes = [0u8; 128];
     let b = svg_calls::to_svg_d(&to_shapes, &to, &mut bytes);
@@ -161,7 +161,7 @@ fn many(label: &[u8], word: u32) {
     let radii = [0.0f64; 513];
     let mut to_shapes = [0u32; 1];
     let mut to = [0.0f64; 3078];
-    let a = cut_calls::cut_corners(&shapes, &anchors, &radii, 0, &mut to_shapes, &mut to);
+    let a = cut_corners::cut_corners(&shapes, &anchors, &radii, 0, &mut to_shapes, &mut to);
     outline(a);
     say(b"\n");
 }

@@ -3,16 +3,16 @@ ghost use mathlib.Core.Path.{_≡_};
 ghost use Prim.Native.Nat.{_*_, _≤_};
 ghost use lib.ListN.{length};
 ghost use Rattle.path.specs.Shape.{total};
 ghost use Rattle.cut_calls.specs.PlainCut.{viewAt, cutUpTo, cutShape};
 ghost use Rattle.cut_calls.specs.Made.{madeAnswer, madeShapes, madeAnchors};
-ghost use Rattle.cut_calls.specs.Calls.{cutAnswer, cutShapesLeft, cutAnchorsLeft};
-use crate::drawing::lay_drawing;
-use crate::handing::hand_over;
-use crate::kinds::Kind;
-use crate::kinds::kind_of;
+ghost use Rattle.cut_corners.specs.Calls.{cutAnswer, cutShapesLeft, cutAnchorsLeft};
 use call::Opened;
 use call::Outline;
 use corner::CornerKind;
+use cut_calls::Kind;
+use cut_calls::hand_over;
+use cut_calls::kind_of;
+use cut_calls::lay_drawing;
 
 // The drawing's path with its corners cut, each radius fitted, every corner in one way.
 pub fn cut_corners(

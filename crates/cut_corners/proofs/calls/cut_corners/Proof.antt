@@ -1,13 +1,13 @@
--- `cut_calls::calls::cut_corners` meets its contract: each return cites what the tests before it told. Assumes nothing.
+-- `cut_corners::calls::cut_corners` meets its contract: each return cites what the tests before it told. Assumes nothing.
 use mathlib.Core.Path.{_≡_, sym, _∙_}
 use native.Mathlib.Omega.{arith}
 use borrow.Author.Needs.{needs}
 use Rattle.call.proofs.Openings.{DrawingOpens, drawing-opens}
 use Rattle.cut_calls.specs.declared.kinds.Kind.the-variants.{Known}
 use Rattle.cut_calls.specs.CornerKinds.{kindOf}
-use Rattle.cut_calls.proofs.Outcomes.{opening-fails, kind-fails, refuses, answer-handed, shapes-handed, anchors-handed}
-use Rattle.cut_calls.proofs.calls.cut_corners.Statement.{statement}
-use Rattle.cut_calls.proofs.calls.cut_corners.Tie as tie
+use Rattle.cut_corners.proofs.Outcomes.{opening-fails, kind-fails, refuses, answer-handed, shapes-handed, anchors-handed}
+use Rattle.cut_corners.proofs.calls.cut_corners.Statement.{statement}
+use Rattle.cut_corners.proofs.calls.cut_corners.Tie as tie
 
 -- ---- what the tests tell
 opens : (c : tie.After-opened2) → let a = c .before .before .before .before .before .before .before .before .args in DrawingOpens (a .shapes .now) (a .anchors .now) (a .radii .now) (c .opened2 .given .0 .0)

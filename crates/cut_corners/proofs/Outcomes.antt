@@ -13,11 +13,11 @@ use Rattle.call.specs.declared.opening.Opened.the-variants.{Refused}
 use Rattle.call.specs.declared.answers.Outline.the-variants as outline
 use Rattle.call.proofs.Openings.{DrawingOpens, drawing-refused}
 use Rattle.call.proofs.Handings.{outline-refused, list-kept, anchors-kept}
 use Rattle.cut_calls.specs.declared.kinds.Kind.the-variants.{Known, Unknown}
 use Rattle.cut_calls.specs.CornerKinds.{kindOf, isKnown}
 use Rattle.cut_calls.specs.PlainCut.{viewAt, cutUpTo, cutShape}
 use Rattle.cut_calls.specs.Made.{madeVerdict, madeAnswer, madeShapes, madeAnchors}
-use Rattle.cut_calls.specs.Calls.{cutOutline, cutWords, cutVerdict, cutAnswer, cutShapesLeft, cutAnchorsLeft}
+use Rattle.cut_corners.specs.Calls.{cutOutline, cutWords, cutVerdict, cutAnswer, cutShapesLeft, cutAnchorsLeft}
 
 module _ (shapes : List ℕ) (anchors radii : List Float) (kind : ℕ) (toShapes : List ℕ) (to : List Float) where
   -- ---- what refuses
