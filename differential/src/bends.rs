@@ -437,14 +437,14 @@ fn compare_bend(tally: &mut Tally, random: &mut Random) {
         pull[random.below(3) as usize] = outside(random);
         families.push(OUTSIDE[1]);
     }
+    let [t, dx, dy] = pull;
     let expected = match refused(&path, &pull) {
         Some(refused) => refused,
         None if !is_known(&path, s, a) => Expected::refused(REFERENCE),
         None => {
             let mut edited = path.original();
             note_bend(&edited, s, a, keep != 0, &mut families);
-            let [t, x, y] = pull;
-            bezier::bend_segment(&mut edited[s], a, t, P::new(x, y), keep != 0);
+            bezier::bend_segment(&mut edited[s], a, t, P::new(dx, dy), keep != 0);
             edited_in_place(&edited)
         }
     };
@@ -459,8 +459,11 @@ fn compare_bend(tally: &mut Tally, random: &mut Random) {
     let refusal = ffi::bend_segment(
         lents.given[0].words(),
         lents.results[0].numbers(),
-        [s, a],
-        pull,
+        s,
+        a,
+        t,
+        dx,
+        dy,
         keep,
         lents.answer.answer(),
     );

@@ -305,8 +305,10 @@ fn compare(mut call: Join, tally: &mut Tally, random: &mut Random) {
         unreachable!("two lists are given, and two buffers lent")
     };
     let refusal = ffi::join(
-        (drawn.numbers(), call.drawn.count),
-        (target.numbers(), call.word()),
+        drawn.numbers(),
+        call.drawn.count,
+        target.numbers(),
+        call.word(),
         call.at_start,
         to_shapes.words(),
         to.numbers(),

@@ -237,7 +237,8 @@ fn compare(mut replay: Replay, tally: &mut Tally, random: &mut Random) {
         before.drawing.kind,
         numbers.numbers(),
         flags.words(),
-        (codes.words(), values.numbers()),
+        codes.words(),
+        values.numbers(),
         answers.words(),
         lents.answer.answer(),
     );

@@ -31,10 +31,13 @@ pub const SHAPES: [Shape; 3] = [
         name: "rect",
         radius: true,
         original: rect,
-        library: |corners, radius, lents| {
+        library: |[ax, ay, bx, by], radius, lents| {
             let [words, numbers] = results(&mut lents.results);
             ffi::rect(
-                corners,
+                ax,
+                ay,
+                bx,
+                by,
                 radius,
                 words.words(),
                 numbers.numbers(),
@@ -46,10 +49,13 @@ pub const SHAPES: [Shape; 3] = [
         name: "ellipse",
         radius: false,
         original: |a, b, _| ellipse(a, b),
-        library: |corners, _, lents| {
+        library: |[ax, ay, bx, by], _, lents| {
             let [words, numbers] = results(&mut lents.results);
             ffi::ellipse(
-                corners,
+                ax,
+                ay,
+                bx,
+                by,
                 words.words(),
                 numbers.numbers(),
                 lents.answer.answer(),
@@ -60,10 +66,13 @@ pub const SHAPES: [Shape; 3] = [
         name: "line",
         radius: false,
         original: |a, b, _| line(a, b),
-        library: |corners, _, lents| {
+        library: |[ax, ay, bx, by], _, lents| {
             let [words, numbers] = results(&mut lents.results);
             ffi::line(
-                corners,
+                ax,
+                ay,
+                bx,
+                by,
                 words.words(),
                 numbers.numbers(),
                 lents.answer.answer(),
