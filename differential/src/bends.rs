@@ -6,7 +6,7 @@ use crate::call::{
 };
 use crate::case::Room;
 use crate::compare::{mismatch, Expected};
-use crate::damage::{far_more, lengthen, one_more, put_outside, shorten, wrap};
+use crate::damage::{self, damage};
 use crate::family::{self, Family, Group};
 use crate::ffi;
 use crate::guard::{Entry, Lent};
@@ -23,38 +23,7 @@ use crate::refusal::{
 use crate::report::Tally;
 use crate::values::{edge, exponent, integer, near, outside, uniform, Numbers};
 
-type Damage = fn(&mut Path, &mut Random);
-
-/// What is done to a path's lists before a call.
-static WHOLE: Group<Damage> = Group {
-    name: "lists",
-    ways: &[
-        ("exact", |_, _| {}),
-        // What stands there breaks every rule, and is not read.
-        ("longer", |path, random| lengthen(&mut path.numbers, random)),
-    ],
-};
-
-static DAMAGED: Group<Damage> = Group {
-    name: "lists",
-    ways: &[
-        ("a number short", |path, _| {
-            path.numbers.pop();
-        }),
-        ("short", |path, random| shorten(&mut path.numbers, random)),
-        ("an anchor more", |path, random| {
-            one_more(&mut path.shapes, random)
-        }),
-        ("far more anchors", |path, random| {
-            far_more(&mut path.shapes, random)
-        }),
-        ("counts that wrap", |path, random| {
-            wrap(&mut path.shapes, random)
-        }),
-    ],
-};
-
-const OUTSIDE: [Family; 2] = [("outside", "a number"), ("outside", "an argument")];
+const OUTSIDE: [Family; 2] = [damage::OUTSIDE, ("outside", "an argument")];
 
 const PLACES: [Family; 5] = [
     ("refused", "5 at anchor 0"),
@@ -67,12 +36,7 @@ const PLACES: [Family; 5] = [
 fn draw(random: &mut Random, families: &mut Vec<Family>) -> Path {
     let path = outlines::draw(MOST_ANCHORS, random, families);
     let mut path = Path::of(&path);
-    let lists = if random.one_in(8) { &DAMAGED } else { &WHOLE };
-    lists.draw(random, families)(&mut path, random);
-    if random.one_in(12) {
-        put_outside(&mut path.numbers, random);
-        families.push(OUTSIDE[0]);
-    }
+    damage(&mut path, families, random);
     path
 }
 
@@ -144,8 +108,7 @@ pub fn transform(cases: u64, random: &mut Random) -> Tally {
         OUTSIDE.to_vec(),
         MAPS.families(),
         outlines::families(),
-        WHOLE.families(),
-        DAMAGED.families(),
+        damage::families(),
         ROOM.families(),
     ];
     let mut tally = Tally::new("transform", families.concat());
@@ -276,8 +239,7 @@ pub fn auto_smooth(cases: u64, random: &mut Random) -> Tally {
         EDITED.to_vec(),
         NAMES.families(),
         outlines::families(),
-        WHOLE.families(),
-        DAMAGED.families(),
+        damage::families(),
     ];
     let mut tally = Tally::new("auto_smooth", families.concat());
     for _ in 0..cases {
@@ -412,8 +374,7 @@ pub fn bend_segment(cases: u64, random: &mut Random) -> Tally {
         DELTA.families(),
         KEEP.families(),
         outlines::families(),
-        WHOLE.families(),
-        DAMAGED.families(),
+        damage::families(),
     ];
     let mut tally = Tally::new("bend_segment", families.concat());
     for _ in 0..cases {

@@ -7,6 +7,7 @@ use crate::call::{
 };
 use crate::case::Room;
 use crate::compare::{mismatch, Expected};
+use crate::damage::{self, damage};
 use crate::family::{self, Family};
 use crate::ffi;
 use crate::guard::{Entry, Lent};
@@ -19,7 +20,6 @@ use crate::paths::{Path, CLOSED};
 use crate::random::Random;
 use crate::refusal::{in_limit, ACCEPTED, ARGUMENTS, LISTS, MOST_ANCHORS, OUTPUT, RESULT};
 use crate::report::Tally;
-use crate::writings::{damage, damages};
 
 const OUTCOMES: [Family; 8] = [
     ACCEPTS,
@@ -55,7 +55,8 @@ pub fn run(cases: u64, random: &mut Random) -> Tally {
         PLACES.to_vec(),
         SHARES.to_vec(),
         corner_branches(),
-        damages(),
+        damage::families(),
+        vec![damage::OUTSIDE],
         outlines::families(),
         ROOM.families(),
     ];

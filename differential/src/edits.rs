@@ -1,7 +1,7 @@
 //! The edits of a path in place: an anchor put into a segment, a drawing's subpath turned round, and anchors deleted.
 
 use crate::compare::{mismatch, Expected};
-use crate::damage::{far_more, lengthen, one_more, put_outside, shorten, wrap};
+use crate::damage::{lengthen, put_outside, shorten, Change, MORE, WHOLE};
 use crate::drawings::{self, Drawing};
 use crate::family::{self, Family, Group};
 use crate::ffi;
@@ -148,8 +148,6 @@ fn segments(path: &Path) -> impl Iterator<Item = (usize, usize)> {
     })
 }
 
-type Change = fn(&mut Path, &mut Random);
-
 /// Numbers past those that the words call for: an anchor needs six.
 static ROOM: Group<Change> = Group {
     name: "room",
@@ -175,15 +173,9 @@ static DAMAGE: Group<Change> = Group {
         ("numbers short", |path, random| {
             shorten(&mut path.numbers, random)
         }),
-        ("an anchor more", |path, random| {
-            one_more(&mut path.shapes, random)
-        }),
-        ("far more anchors", |path, random| {
-            far_more(&mut path.shapes, random)
-        }),
-        ("counts that wrap", |path, random| {
-            wrap(&mut path.shapes, random)
-        }),
+        MORE[0],
+        MORE[1],
+        MORE[2],
         ("a number outside", |path, random| {
             put_outside(&mut path.numbers, random)
         }),
@@ -529,10 +521,7 @@ fn put_pair(which: &mut Vec<u32>, pair: [u32; 2], random: &mut Random) {
 /// Numbers past those that the words call for.
 static BEYOND: Group<Change> = Group {
     name: "room",
-    ways: &[
-        ("exact", |_, _| {}),
-        ("longer", |path, random| lengthen(&mut path.numbers, random)),
-    ],
+    ways: WHOLE.ways,
 };
 
 fn compare_deleted(mut call: Delete, tally: &mut Tally, random: &mut Random) {

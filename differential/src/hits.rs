@@ -2,7 +2,7 @@
 
 use crate::call::{outcome, ACCEPTS, REFUSES_5, REFUSES_7};
 use crate::compare::{mismatch, Expected};
-use crate::damage::{far_more, lengthen, one_more, put_outside, shorten, wrap};
+use crate::damage::{self, damage};
 use crate::family::{self, Family, Group};
 use crate::ffi;
 use crate::guard::{Entry, Lent};
@@ -26,38 +26,7 @@ struct Query {
     tol: f64,
 }
 
-type Damage = fn(&mut Path, &mut Random);
-
-static LISTS_LENT: Group<Damage> = Group {
-    name: "lists",
-    ways: &[
-        ("exact", |_, _| {}),
-        // What stands there breaks every rule, and is not read.
-        ("longer", |path, random| lengthen(&mut path.numbers, random)),
-    ],
-};
-
-static DAMAGED_LISTS: Group<Damage> = Group {
-    name: "lists",
-    ways: &[
-        ("a number short", |path, _| {
-            path.numbers.pop();
-        }),
-        ("short", |path, random| shorten(&mut path.numbers, random)),
-        ("an anchor more", |path, random| {
-            one_more(&mut path.shapes, random);
-        }),
-        ("far more anchors", |path, random| {
-            far_more(&mut path.shapes, random);
-        }),
-        ("counts that wrap", |path, random| {
-            wrap(&mut path.shapes, random);
-        }),
-    ],
-};
-
 const REPEATED: Family = ("anchors", "repeated");
-const OUTSIDE: Family = ("outside", "a number");
 const LOOSE_OUTSIDE: Family = ("outside", "a loose argument");
 
 type Place = fn(&BezPath, &mut Random) -> P;
@@ -144,8 +113,8 @@ static TOLERANCE: Group<Tolerance> = Group {
 };
 
 fn drawn_families() -> Vec<Family> {
-    let lists = [LISTS_LENT.families(), DAMAGED_LISTS.families()].concat();
-    [outlines::families(), lists, vec![REPEATED, OUTSIDE]].concat()
+    let more = vec![REPEATED, damage::OUTSIDE];
+    [outlines::families(), damage::families(), more].concat()
 }
 
 fn query_families() -> Vec<Family> {
@@ -164,16 +133,7 @@ impl Query {
         let q = POINT.draw(random, &mut families)(&path, random);
         let tol = TOLERANCE.draw(random, &mut families)(&path, q, random);
         let mut path = Path::of(&path);
-        let lists = if random.one_in(8) {
-            &DAMAGED_LISTS
-        } else {
-            &LISTS_LENT
-        };
-        lists.draw(random, &mut families)(&mut path, random);
-        if random.one_in(12) {
-            put_outside(&mut path.numbers, random);
-            families.push(OUTSIDE);
-        }
+        damage(&mut path, &mut families, random);
         let mut query = Query {
             families,
             path,

@@ -3,6 +3,7 @@
 
 use crate::caches::{Cache, CUT, TWELVE};
 use crate::compare::{mismatch, Expected};
+use crate::damage::shorten;
 use crate::drawings::{self, Drawing};
 use crate::family::{Family, Group};
 use crate::ffi::{self, Answer};
@@ -216,10 +217,10 @@ fn draw(random: &mut Random) -> (Kept, Edit) {
         flags.push(random.bits() as u32);
     }
     if random.one_in(16) {
-        numbers.truncate(random.below(numbers.len() as u64 + 1) as usize);
+        shorten(&mut numbers, random);
     }
     if random.one_in(16) {
-        flags.truncate(random.below(flags.len() as u64 + 1) as usize);
+        shorten(&mut flags, random);
     }
     let kept = Kept {
         drawing,
