@@ -1,9 +1,6 @@
 //! The calls that move the points of a path.
 
-use crate::call::{
-    outcome, ACCEPTS, REFUSES_5, REFUSES_5_SHORT, REFUSES_6, REFUSES_7, REFUSES_7_SHORT, REFUSES_8,
-    REFUSES_9, REFUSES_9_SHORT,
-};
+use crate::call::{outcome, ACCEPTS, OUTCOMES, REFUSES_5, REFUSES_6, REFUSES_7, REFUSES_9};
 use crate::case::Room;
 use crate::compare::{mismatch, Expected};
 use crate::damage::{self, damage};
@@ -17,9 +14,7 @@ use crate::outlines;
 use crate::parameters::ROOM;
 use crate::paths::{Path, CLOSED, SIX};
 use crate::random::Random;
-use crate::refusal::{
-    in_limit, ACCEPTED, ARGUMENTS, LISTS, MOST_ANCHORS, OUTPUT, REFERENCE, RESULT,
-};
+use crate::refusal::{ARGUMENTS, MOST_ANCHORS, REFERENCE, RESULT};
 use crate::report::Tally;
 use crate::values::{edge, exponent, integer, near, outside, uniform, Numbers};
 
@@ -38,20 +33,6 @@ fn draw(random: &mut Random, families: &mut Vec<Family>) -> Path {
     let mut path = Path::of(&path);
     damage(&mut path, families, random);
     path
-}
-
-/// Document 01's refusals 7 and 5.
-fn refused(path: &Path, arguments: &[f64]) -> Option<Expected> {
-    if !path.is_readable(MOST_ANCHORS) {
-        return Some(Expected::refused(LISTS));
-    }
-    if let Some(place) = path.first_outside() {
-        return Some(Expected::refused_at(place, ARGUMENTS));
-    }
-    if !arguments.iter().all(|&x| in_limit(x)) {
-        return Some(Expected::refused_at(path.anchors() as usize, ARGUMENTS));
-    }
-    None
 }
 
 fn note_place(path: &Path, expected: &Expected, families: &mut Vec<Family>) {
@@ -92,18 +73,8 @@ static MAPS: Group<fn(&mut Random) -> Affine> = Group {
 };
 
 pub fn transform(cases: u64, random: &mut Random) -> Tally {
-    let outcomes = vec![
-        ACCEPTS,
-        REFUSES_7,
-        REFUSES_7_SHORT,
-        REFUSES_5,
-        REFUSES_5_SHORT,
-        REFUSES_9,
-        REFUSES_9_SHORT,
-        REFUSES_8,
-    ];
     let families = [
-        outcomes,
+        OUTCOMES.to_vec(),
         PLACES.to_vec(),
         OUTSIDE.to_vec(),
         MAPS.families(),
@@ -126,14 +97,17 @@ fn compare_transform(tally: &mut Tally, random: &mut Random) {
         m[random.below(6) as usize] = outside(random);
         families.push(OUTSIDE[1]);
     }
-    let refused = refused(&path, &m);
+    let refused = Expected::refusal_of(&path, MOST_ANCHORS, &m);
     let needs = match refused {
         None => [path.shapes.len(), SIX * path.anchors() as usize],
         // What stands in for a result that there is not.
         Some(_) => [1 + path.shapes.len().min(32), 24],
     };
     let rooms = needs.map(|need| Room::draw(need, random, &mut families));
-    let expected = refused.unwrap_or_else(|| mapped(&path, m, &rooms));
+    let expected = refused.unwrap_or_else(|| {
+        let made = bezier::transform(&path.original(), m);
+        Expected::made(&Path::of(&made), &rooms)
+    });
     let short = rooms.iter().any(Room::is_short);
     families.push(outcome(&expected, short));
     note_place(&path, &expected, &mut families);
@@ -168,25 +142,6 @@ fn compare_transform(tally: &mut Tally, random: &mut Random) {
             let families = family::list(&families);
             format!("    {families}\n{path}\n    {m:?}, {words}, {numbers}\n    {wrong}")
         });
-    }
-}
-
-/// 9 and 8, else the original's path.
-fn mapped(path: &Path, m: Affine, rooms: &[Room; 2]) -> Expected {
-    let made = Path::of(&bezier::transform(&path.original(), m));
-    if let Some(place) = made.first_outside() {
-        return Expected::refused_at(place, RESULT);
-    }
-    if rooms.iter().any(Room::is_short) {
-        return Expected::refused(OUTPUT);
-    }
-    Expected {
-        refusal: ACCEPTED,
-        answer: [0, made.anchors(), made.shapes.len() as u64, 0],
-        written: vec![
-            made.shapes.iter().copied().map(u64::from).collect(),
-            made.numbers.iter().map(|x| x.to_bits()).collect(),
-        ],
     }
 }
 
@@ -252,7 +207,7 @@ fn compare_smooth(tally: &mut Tally, random: &mut Random) {
     let mut families = Vec::new();
     let path = draw(random, &mut families);
     let [s, k] = NAMES.draw(random, &mut families)(&path, random);
-    let expected = match refused(&path, &[]) {
+    let expected = match Expected::refusal_of(&path, MOST_ANCHORS, &[]) {
         Some(refused) => refused,
         None if k >= count_of(&path, s) as usize => Expected::refused(REFERENCE),
         None => {
@@ -311,11 +266,7 @@ fn edited_in_place(edited: &BezPath) -> Expected {
     if let Some(place) = made.first_outside() {
         return Expected::refused_at(place, RESULT);
     }
-    Expected {
-        refusal: ACCEPTED,
-        answer: [0, made.anchors(), made.shapes.len() as u64, 0],
-        written: vec![made.numbers.iter().map(|x| x.to_bits()).collect()],
-    }
+    Expected::numbers(&made)
 }
 
 static PARAMETER: Group<Numbers> = Group {
@@ -399,7 +350,7 @@ fn compare_bend(tally: &mut Tally, random: &mut Random) {
         families.push(OUTSIDE[1]);
     }
     let [t, dx, dy] = pull;
-    let expected = match refused(&path, &pull) {
+    let expected = match Expected::refusal_of(&path, MOST_ANCHORS, &pull) {
         Some(refused) => refused,
         None if !is_known(&path, s, a) => Expected::refused(REFERENCE),
         None => {

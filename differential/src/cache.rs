@@ -15,7 +15,7 @@ use crate::lents::Lents;
 use crate::parameters::ROOM;
 use crate::paths::{Path, SIX};
 use crate::random::Random;
-use crate::refusal::{ACCEPTED, ARGUMENTS, LISTS, MOST_ANCHORS, MOST_SUBPATHS, OUTPUT, RESULT};
+use crate::refusal::{ACCEPTED, ARGUMENTS, LISTS, MOST_ANCHORS, MOST_SUBPATHS, RESULT};
 use crate::report::Tally;
 
 /// Where 5 and 9 are reported, and which list is too short.
@@ -198,7 +198,10 @@ fn compare_assemble(mut cache: Cache, tally: &mut Tally, random: &mut Random) {
         ],
     };
     let rooms = needs.map(|need| Room::draw(need, random, &mut cache.families));
-    let expected = handed_over(assembled, &rooms);
+    let expected = match assembled {
+        Some(path) => Expected::made(&path, &rooms),
+        None => Expected::refused(LISTS),
+    };
     let short = rooms.iter().any(Room::is_short);
     cache.families.push(outcome(&expected, short));
     tally.count(1, &cache.families);
@@ -220,25 +223,6 @@ fn compare_assemble(mut cache: Cache, tally: &mut Tally, random: &mut Random) {
         tally.fail(cache.size(), || {
             format!("{cache}, {words}, {numbers}\n    {wrong}")
         });
-    }
-}
-
-/// In document 01's order: 7, 9 at the index in the path, 8.
-fn handed_over(assembled: Option<Path>, rooms: &[Room; 2]) -> Expected {
-    let Some(path) = assembled else {
-        return Expected::refused(LISTS);
-    };
-    if let Some(place) = path.first_outside() {
-        return Expected::refused_at(place, RESULT);
-    }
-    if rooms.iter().any(Room::is_short) {
-        return Expected::refused(OUTPUT);
-    }
-    let words = path.shapes.iter().copied().map(u64::from);
-    Expected {
-        refusal: ACCEPTED,
-        answer: [0, path.anchors(), path.shapes.len() as u64, 0],
-        written: vec![words.collect(), bits(&path.numbers)],
     }
 }
 

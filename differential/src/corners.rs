@@ -1,10 +1,7 @@
 //! The corners of a path.
 
 use crate::branches;
-use crate::call::{
-    outcome, ACCEPTS, REFUSES_5, REFUSES_5_SHORT, REFUSES_7, REFUSES_7_SHORT, REFUSES_8, REFUSES_9,
-    REFUSES_9_SHORT,
-};
+use crate::call::{outcome, OUTCOMES};
 use crate::case::Room;
 use crate::compare::{mismatch, Expected};
 use crate::damage::{self, damage};
@@ -18,19 +15,8 @@ use crate::outlines;
 use crate::parameters::ROOM;
 use crate::paths::{Path, CLOSED};
 use crate::random::Random;
-use crate::refusal::{in_limit, ACCEPTED, ARGUMENTS, LISTS, MOST_ANCHORS, OUTPUT, RESULT};
+use crate::refusal::{in_limit, ACCEPTED, ARGUMENTS, MOST_ANCHORS, OUTPUT, RESULT};
 use crate::report::Tally;
-
-const OUTCOMES: [Family; 8] = [
-    ACCEPTS,
-    REFUSES_7,
-    REFUSES_7_SHORT,
-    REFUSES_5,
-    REFUSES_5_SHORT,
-    REFUSES_9,
-    REFUSES_9_SHORT,
-    REFUSES_8,
-];
 
 /// Where a path is refused, by which number of a corner, and by which buffer.
 const PLACES: [Family; 7] = [
@@ -114,11 +100,8 @@ impl Listed {
 
 /// Document 01's refusal, 7 or 5, or the corners.
 fn found(path: &Path) -> Result<Listed, Expected> {
-    if !path.is_readable(MOST_ANCHORS) {
-        return Err(Expected::refused(LISTS));
-    }
-    if let Some(place) = path.first_outside() {
-        return Err(Expected::refused_at(place, ARGUMENTS));
+    if let Some(refused) = Expected::refusal_of(path, MOST_ANCHORS, &[]) {
+        return Err(refused);
     }
     let corners = path_corners(&path.original());
     let place = |c: &Corner| {

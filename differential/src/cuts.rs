@@ -1,10 +1,7 @@
 //! The corner cut of a drawing.
 
 use crate::branches;
-use crate::call::{
-    outcome, ACCEPTS, REFUSES_5, REFUSES_5_SHORT, REFUSES_7, REFUSES_7_SHORT, REFUSES_8, REFUSES_9,
-    REFUSES_9_SHORT,
-};
+use crate::call::{outcome, OUTCOMES};
 use crate::case::Room;
 use crate::compare::{mismatch, Expected};
 use crate::drawings::{self, Drawing, KINDS};
@@ -16,20 +13,9 @@ use crate::original::counted;
 use crate::parameters::ROOM;
 use crate::paths::{Path, SIX};
 use crate::random::Random;
-use crate::refusal::{ACCEPTED, ARGUMENTS, LISTS, MOST_ANCHORS, MOST_SUBPATHS, OUTPUT, RESULT};
+use crate::refusal::{ARGUMENTS, LISTS, MOST_ANCHORS, MOST_SUBPATHS, OUTPUT, RESULT};
 use crate::report::Tally;
 use crate::samples;
-
-const OUTCOMES: [Family; 8] = [
-    ACCEPTS,
-    REFUSES_7,
-    REFUSES_7_SHORT,
-    REFUSES_5,
-    REFUSES_5_SHORT,
-    REFUSES_9,
-    REFUSES_9_SHORT,
-    REFUSES_8,
-];
 
 /// Where a drawing is refused, and by which buffer.
 const PLACES: [Family; 8] = [
@@ -68,7 +54,10 @@ fn compare(mut drawing: Drawing, tally: &mut Tally, random: &mut Random) {
         note_branches(&mut drawing);
     }
     let rooms = rooms(&mut drawing, &cut, random);
-    let expected = expected(cut, &rooms);
+    let expected = match cut {
+        Ok(cut) => Expected::made(&cut, &rooms),
+        Err(refused) => refused,
+    };
     note_outcome(&mut drawing, &expected, &rooms);
     tally.count(1, &drawing.families);
     let mut lents = lents(&drawing, &rooms, random);
@@ -94,27 +83,6 @@ fn cut(drawing: &Drawing) -> Result<Path, Expected> {
         return Err(Expected::refused_at(anchors, ARGUMENTS));
     }
     Ok(Path::of(&drawing.cut()))
-}
-
-/// Then 9 and 8.
-fn expected(cut: Result<Path, Expected>, rooms: &[Room; 2]) -> Expected {
-    let cut = match cut {
-        Ok(cut) => cut,
-        Err(refused) => return refused,
-    };
-    if let Some(place) = cut.first_outside() {
-        return Expected::refused_at(place, RESULT);
-    }
-    if rooms.iter().any(Room::is_short) {
-        return Expected::refused(OUTPUT);
-    }
-    let words = cut.shapes.iter().copied().map(u64::from);
-    let numbers = cut.numbers.iter().map(|x| x.to_bits());
-    Expected {
-        refusal: ACCEPTED,
-        answer: [0, cut.anchors(), cut.shapes.len() as u64, 0],
-        written: vec![words.collect(), numbers.collect()],
-    }
 }
 
 /// For the words and for the numbers.

@@ -13,9 +13,7 @@ use crate::original::geom::P;
 use crate::parameters::ROOM;
 use crate::paths::{size, Path, CLOSED, SIX};
 use crate::random::Random;
-use crate::refusal::{
-    ACCEPTED, ARGUMENTS, CAPACITY, LIMIT, LISTS, MOST_ANCHORS, OUTPUT, REFERENCE, RESULT,
-};
+use crate::refusal::{ARGUMENTS, CAPACITY, LIMIT, LISTS, MOST_ANCHORS, OUTPUT, REFERENCE, RESULT};
 use crate::report::Tally;
 
 const OUTCOMES: [Family; 13] = [
@@ -385,14 +383,7 @@ fn expected(
         return Expected::refused(OUTPUT);
     }
     note(call, &made);
-    Expected {
-        refusal: ACCEPTED,
-        answer: [0, made.anchors(), 1, 0],
-        written: vec![
-            made.shapes.iter().copied().map(u64::from).collect(),
-            made.numbers.iter().map(|x| x.to_bits()).collect(),
-        ],
-    }
+    Expected::path(&made)
 }
 
 /// What an accepted call joined.
