@@ -5,8 +5,8 @@ use crate::case::Room;
 use crate::compare::{mismatch, Expected};
 use crate::damage::{self, damage};
 use crate::family::{self, Family, Group};
-use crate::ffi;
-use crate::guard::{Entry, Lent};
+use crate::ffi::{self, Answer};
+use crate::guard::Lent;
 use crate::lents::Lents;
 use crate::original::bezier::{self, BezPath};
 use crate::original::geom::{Affine, P};
@@ -112,19 +112,12 @@ fn compare_transform(tally: &mut Tally, random: &mut Random) {
     families.push(outcome(&expected, short));
     note_place(&path, &expected, &mut families);
     tally.count(1, &families);
-    let [words, numbers] = &rooms;
-    let mut lents = Lents {
-        given: vec![
-            Lent::holding_words(&path.shapes, random),
-            Lent::holding(&path.numbers, random),
-            Lent::holding(&m, random),
-        ],
-        results: vec![
-            Lent::foreign(Entry::Word, words.lent, random),
-            Lent::foreign(Entry::Number, numbers.lent, random),
-        ],
-        answer: Lent::for_answer(random),
-    };
+    let given = vec![
+        Lent::holding_words(&path.shapes, random),
+        Lent::holding(&path.numbers, random),
+        Lent::holding(&m, random),
+    ];
+    let mut lents = Lents::with_rooms(given, &rooms, random);
     let ([shapes, anchors, map], [to_shapes, to]) = (&mut lents.given[..], &mut lents.results[..])
     else {
         unreachable!("three lists are given, and two buffers lent")
@@ -140,6 +133,7 @@ fn compare_transform(tally: &mut Tally, random: &mut Random) {
     if let Some(wrong) = mismatch(&expected, refusal, &lents) {
         tally.fail(path.size(), || {
             let families = family::list(&families);
+            let [words, numbers] = &rooms;
             format!("    {families}\n{path}\n    {m:?}, {words}, {numbers}\n    {wrong}")
         });
     }
@@ -217,27 +211,15 @@ fn compare_smooth(tally: &mut Tally, random: &mut Random) {
             edited_in_place(&edited)
         }
     };
-    families.push(outcome(&expected, false));
-    note_place(&path, &expected, &mut families);
-    tally.count(1, &families);
-    let mut lents = Lents {
-        given: vec![Lent::holding_words(&path.shapes, random)],
-        results: vec![Lent::holding(&path.numbers, random)],
-        answer: Lent::for_answer(random),
+    let arguments = format!("subpath {s}, anchor {k}");
+    let edit = Edit {
+        families,
+        path,
+        arguments,
     };
-    let refusal = ffi::auto_smooth(
-        lents.given[0].words(),
-        lents.results[0].numbers(),
-        s,
-        k,
-        lents.answer.answer(),
-    );
-    if let Some(wrong) = mismatch(&expected, refusal, &lents) {
-        tally.fail(path.size(), || {
-            let families = family::list(&families);
-            format!("    {families}\n{path}\n    subpath {s}, anchor {k}\n    {wrong}")
-        });
-    }
+    compare_edit(edit, &expected, tally, random, |shapes, anchors, answer| {
+        ffi::auto_smooth(shapes, anchors, s, k, answer)
+    });
 }
 
 fn note_smooth(path: &Path, s: usize, k: usize, edited: &BezPath, families: &mut Vec<Family>) {
@@ -267,6 +249,44 @@ fn edited_in_place(edited: &BezPath) -> Expected {
         return Expected::refused_at(place, RESULT);
     }
     Expected::numbers(&made)
+}
+
+/// A call that edits a path in place.
+struct Edit {
+    families: Vec<Family>,
+    path: Path,
+    arguments: String,
+}
+
+fn compare_edit(
+    mut edit: Edit,
+    expected: &Expected,
+    tally: &mut Tally,
+    random: &mut Random,
+    library: impl FnOnce(&[u32], &mut [f64], &mut Answer) -> u32,
+) {
+    edit.families.push(outcome(expected, false));
+    note_place(&edit.path, expected, &mut edit.families);
+    tally.count(1, &edit.families);
+    let mut lents = Lents {
+        given: vec![Lent::holding_words(&edit.path.shapes, random)],
+        results: vec![Lent::holding(&edit.path.numbers, random)],
+        answer: Lent::for_answer(random),
+    };
+    let refusal = library(
+        lents.given[0].words(),
+        lents.results[0].numbers(),
+        lents.answer.answer(),
+    );
+    if let Some(wrong) = mismatch(expected, refusal, &lents) {
+        tally.fail(edit.path.size(), || {
+            let families = family::list(&edit.families);
+            let Edit {
+                path, arguments, ..
+            } = &edit;
+            format!("    {families}\n{path}\n    {arguments}\n    {wrong}")
+        });
+    }
 }
 
 static PARAMETER: Group<Numbers> = Group {
@@ -360,31 +380,15 @@ fn compare_bend(tally: &mut Tally, random: &mut Random) {
             edited_in_place(&edited)
         }
     };
-    families.push(outcome(&expected, false));
-    note_place(&path, &expected, &mut families);
-    tally.count(1, &families);
-    let mut lents = Lents {
-        given: vec![Lent::holding_words(&path.shapes, random)],
-        results: vec![Lent::holding(&path.numbers, random)],
-        answer: Lent::for_answer(random),
+    let arguments = format!("subpath {s}, anchor {a}, {pull:?}, {keep}");
+    let edit = Edit {
+        families,
+        path,
+        arguments,
     };
-    let refusal = ffi::bend_segment(
-        lents.given[0].words(),
-        lents.results[0].numbers(),
-        s,
-        a,
-        t,
-        dx,
-        dy,
-        keep,
-        lents.answer.answer(),
-    );
-    if let Some(wrong) = mismatch(&expected, refusal, &lents) {
-        tally.fail(path.size(), || {
-            let families = family::list(&families);
-            format!("    {families}\n{path}\n    subpath {s}, anchor {a}, {pull:?}, {keep}\n    {wrong}")
-        });
-    }
+    compare_edit(edit, &expected, tally, random, |shapes, anchors, answer| {
+        ffi::bend_segment(shapes, anchors, s, a, t, dx, dy, keep, answer)
+    });
 }
 
 /// By document 01: a start of `segments` from 2 anchors up, index 0 of one anchor.

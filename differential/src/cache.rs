@@ -205,22 +205,16 @@ fn compare_assemble(mut cache: Cache, tally: &mut Tally, random: &mut Random) {
     let short = rooms.iter().any(Room::is_short);
     cache.families.push(outcome(&expected, short));
     tally.count(1, &cache.families);
-    let [words, numbers] = &rooms;
-    let mut lents = Lents {
-        given: vec![
-            Lent::holding_words(&cache.shapes, random),
-            Lent::holding(&cache.numbers, random),
-            Lent::holding_words(&cache.flags, random),
-        ],
-        results: vec![
-            Lent::foreign(Entry::Word, words.lent, random),
-            Lent::foreign(Entry::Number, numbers.lent, random),
-        ],
-        answer: Lent::for_answer(random),
-    };
+    let given = vec![
+        Lent::holding_words(&cache.shapes, random),
+        Lent::holding(&cache.numbers, random),
+        Lent::holding_words(&cache.flags, random),
+    ];
+    let mut lents = Lents::with_rooms(given, &rooms, random);
     let refusal = library_assemble(&mut lents);
     if let Some(wrong) = mismatch(&expected, refusal, &lents) {
         tally.fail(cache.size(), || {
+            let [words, numbers] = &rooms;
             format!("{cache}, {words}, {numbers}\n    {wrong}")
         });
     }

@@ -53,7 +53,7 @@ pub const REFUSES_9: Family = ("outcome", "refused 9");
 pub const REFUSES_9_SHORT: Family = ("outcome", "refused 9, and short");
 pub const REFUSES_8: Family = ("outcome", "refused 8");
 
-/// What a call comes out in that reads a path and lends buffers for its result.
+/// What a call comes out in that reads a path and is lent buffers for its result.
 pub const OUTCOMES: [Family; 8] = [
     ACCEPTS,
     REFUSES_7,

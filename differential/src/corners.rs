@@ -7,7 +7,7 @@ use crate::compare::{mismatch, Expected};
 use crate::damage::{self, damage};
 use crate::family::{self, Family};
 use crate::ffi;
-use crate::guard::{Entry, Lent};
+use crate::guard::Lent;
 use crate::lents::Lents;
 use crate::original::bezier::{path_corners, Corner};
 use crate::original::counted;
@@ -75,7 +75,11 @@ fn compare(random: &mut Random, tally: &mut Tally) {
     families.push(outcome(&expected, short.contains(&true)));
     families.extend(place(&expected, short));
     tally.count(1, &families);
-    let mut lents = lents(&path, &rooms, random);
+    let given = vec![
+        Lent::holding_words(&path.shapes, random),
+        Lent::holding(&path.numbers, random),
+    ];
+    let mut lents = Lents::with_rooms(given, &rooms, random);
     let refusal = library(&mut lents);
     if let Some(wrong) = mismatch(&expected, refusal, &lents) {
         tally.fail(path.size(), || {
@@ -143,10 +147,7 @@ fn expected(found: Result<Listed, Expected>, rooms: &[Room; 2]) -> Expected {
 }
 
 fn note_corners(path: &Path, found: &Listed, families: &mut Vec<Family>) {
-    counted::path_corners(&path.build(
-        |[p, h_in, h_out]| counted::Anchor { p, h_in, h_out },
-        |anchors, closed| counted::SubPath { anchors, closed },
-    ));
+    counted::path_corners(&path.counted());
     families.extend(branches::take());
     families.push(match found.count() {
         0 => SHARES[0],
@@ -175,20 +176,6 @@ fn place(expected: &Expected, short: [bool; 2]) -> Option<Family> {
         _ => return None,
     };
     Some(PLACES[place])
-}
-
-fn lents(path: &Path, [places, numbers]: &[Room; 2], random: &mut Random) -> Lents {
-    Lents {
-        given: vec![
-            Lent::holding_words(&path.shapes, random),
-            Lent::holding(&path.numbers, random),
-        ],
-        results: vec![
-            Lent::foreign(Entry::Word, places.lent, random),
-            Lent::foreign(Entry::Number, numbers.lent, random),
-        ],
-        answer: Lent::for_answer(random),
-    }
 }
 
 fn library(lents: &mut Lents) -> u32 {

@@ -7,7 +7,7 @@ use crate::compare::{mismatch, Expected};
 use crate::drawings::{self, Drawing, KINDS};
 use crate::family::Family;
 use crate::ffi;
-use crate::guard::{Entry, Lent};
+use crate::guard::Lent;
 use crate::lents::Lents;
 use crate::original::counted;
 use crate::parameters::ROOM;
@@ -60,7 +60,12 @@ fn compare(mut drawing: Drawing, tally: &mut Tally, random: &mut Random) {
     };
     note_outcome(&mut drawing, &expected, &rooms);
     tally.count(1, &drawing.families);
-    let mut lents = lents(&drawing, &rooms, random);
+    let given = vec![
+        Lent::holding_words(&drawing.path.shapes, random),
+        Lent::holding(&drawing.path.numbers, random),
+        Lent::holding(&drawing.radii, random),
+    ];
+    let mut lents = Lents::with_rooms(given, &rooms, random);
     let refusal = library(&drawing, &mut lents);
     if let Some(wrong) = mismatch(&expected, refusal, &lents) {
         tally.fail(drawing.size(), || {
@@ -99,16 +104,16 @@ fn rooms(drawing: &mut Drawing, cut: &Result<Path, Expected>, random: &mut Rando
 }
 
 fn note_branches(drawing: &mut Drawing) {
-    let path = drawing.path.build(
-        |[p, h_in, h_out]| counted::Anchor { p, h_in, h_out },
-        |anchors, closed| counted::SubPath { anchors, closed },
-    );
     let kinds = [
         counted::CornerKind::Round,
         counted::CornerKind::Inverted,
         counted::CornerKind::Chamfer,
     ];
-    counted::cut_corners(&path, drawing.radius(), kinds[drawing.kind as usize]);
+    counted::cut_corners(
+        &drawing.path.counted(),
+        drawing.radius(),
+        kinds[drawing.kind as usize],
+    );
     drawing.families.extend(branches::take());
 }
 
@@ -130,21 +135,6 @@ fn note_outcome(drawing: &mut Drawing, expected: &Expected, rooms: &[Room; 2]) {
         _ => return,
     };
     drawing.families.push(PLACES[place]);
-}
-
-fn lents(drawing: &Drawing, [words, numbers]: &[Room; 2], random: &mut Random) -> Lents {
-    Lents {
-        given: vec![
-            Lent::holding_words(&drawing.path.shapes, random),
-            Lent::holding(&drawing.path.numbers, random),
-            Lent::holding(&drawing.radii, random),
-        ],
-        results: vec![
-            Lent::foreign(Entry::Word, words.lent, random),
-            Lent::foreign(Entry::Number, numbers.lent, random),
-        ],
-        answer: Lent::for_answer(random),
-    }
 }
 
 fn library(drawing: &Drawing, lents: &mut Lents) -> u32 {

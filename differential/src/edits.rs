@@ -125,8 +125,7 @@ static REFERENCES: Group<fn(&Path, &mut Random) -> (usize, usize)> = Group {
             (s, random.below(8) as usize)
         }),
         ("far off", |_, random| {
-            let far = |random: &mut Random| (random.bits() >> random.below(64)) as usize;
-            (far(random), far(random))
+            (random.whole() as usize, random.whole() as usize)
         }),
     ],
 };
@@ -293,9 +292,7 @@ static SUBPATHS: Group<fn(&Drawing, &mut Random) -> usize> = Group {
         ("the one after the last", |drawing, _| {
             drawing.path.shapes.len()
         }),
-        ("far off", |_, random| {
-            (random.bits() >> random.below(64)) as usize
-        }),
+        ("far off", |_, random| random.whole() as usize),
     ],
 };
 

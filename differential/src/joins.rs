@@ -6,7 +6,7 @@ use crate::compare::{mismatch, Expected};
 use crate::damage::{lengthen, put_outside, shorten};
 use crate::family::{self, Family, Group};
 use crate::ffi;
-use crate::guard::{Entry, Lent};
+use crate::guard::Lent;
 use crate::lents::Lents;
 use crate::original::bezier::{self, Anchor, SubPath};
 use crate::original::geom::P;
@@ -265,7 +265,7 @@ static DAMAGED: Group<Change> = Group {
         }),
         ("a drawn anchor more", |call, _| call.drawn.count += 1),
         ("far more drawn", |call, random| {
-            call.drawn.count |= (random.bits() >> random.below(64)) as usize
+            call.drawn.count |= random.whole() as usize
         }),
         // Six times as many wraps to a count that the list has the numbers for.
         ("drawn that wrap", |call, _| call.drawn.count |= 1 << 63),
@@ -287,18 +287,11 @@ fn compare(mut call: Join, tally: &mut Tally, random: &mut Random) {
     let rooms = needs.map(|need| Room::draw(need, random, &mut call.families));
     let expected = expected(&mut call, made, &rooms);
     tally.count(1, &call.families);
-    let [words, numbers] = &rooms;
-    let mut lents = Lents {
-        given: vec![
-            Lent::holding(&call.drawn.numbers, random),
-            Lent::holding(&call.target.numbers, random),
-        ],
-        results: vec![
-            Lent::foreign(Entry::Word, words.lent, random),
-            Lent::foreign(Entry::Number, numbers.lent, random),
-        ],
-        answer: Lent::for_answer(random),
-    };
+    let given = vec![
+        Lent::holding(&call.drawn.numbers, random),
+        Lent::holding(&call.target.numbers, random),
+    ];
+    let mut lents = Lents::with_rooms(given, &rooms, random);
     let ([drawn, target], [to_shapes, to]) = (&mut lents.given[..], &mut lents.results[..]) else {
         unreachable!("two lists are given, and two buffers lent")
     };
@@ -314,6 +307,7 @@ fn compare(mut call: Join, tally: &mut Tally, random: &mut Random) {
     );
     if let Some(wrong) = mismatch(&expected, refusal, &lents) {
         tally.fail(call.size(), || {
+            let [words, numbers] = &rooms;
             format!(
                 "    {}\n{}\n{}\n    count {}, word {:#x}, at start {:#x}, {words}, {numbers}\n    {wrong}",
                 family::list(&call.families),

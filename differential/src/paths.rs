@@ -2,6 +2,7 @@
 
 use crate::case::significant_bits;
 use crate::original::bezier::{Anchor, BezPath, SubPath};
+use crate::original::counted;
 use crate::original::geom::P;
 use crate::refusal::{in_limit, MOST_SUBPATHS};
 use std::fmt::{Display, Formatter, Result};
@@ -59,6 +60,14 @@ impl Path {
         self.build(
             |[p, h_in, h_out]| Anchor { p, h_in, h_out },
             |anchors, closed| SubPath { anchors, closed },
+        )
+    }
+
+    /// A readable path as the original that counts its branches has it.
+    pub fn counted(&self) -> counted::BezPath {
+        self.build(
+            |[p, h_in, h_out]| counted::Anchor { p, h_in, h_out },
+            |anchors, closed| counted::SubPath { anchors, closed },
         )
     }
 

@@ -91,8 +91,7 @@ static REFERENCES: Group<fn(&Path, &mut Random) -> (usize, usize)> = Group {
             (s, random.below(9) as usize)
         }),
         ("far off", |_, random| {
-            let far = |random: &mut Random| (random.bits() >> random.below(64)) as usize;
-            (far(random), far(random))
+            (random.whole() as usize, random.whole() as usize)
         }),
     ],
 };

@@ -7,7 +7,6 @@ use crate::case::{significant_bits, Room};
 use crate::compare::{mismatch, Expected};
 use crate::family::{self, Family, Group};
 use crate::ffi::{self, Answer};
-use crate::guard::{Entry, Lent};
 use crate::lents::Lents;
 use crate::original::bezier::{ellipse, line, rect, BezPath};
 use crate::original::geom::P;
@@ -164,15 +163,7 @@ fn compare(shape: &Shape, tally: &mut Tally, random: &mut Random) {
     };
     note_outcome(&expected, &rooms, &mut families);
     tally.count(1, &families);
-    let [words, numbers] = &rooms;
-    let mut lents = Lents {
-        given: Vec::new(),
-        results: vec![
-            Lent::foreign(Entry::Word, words.lent, random),
-            Lent::foreign(Entry::Number, numbers.lent, random),
-        ],
-        answer: Lent::for_answer(random),
-    };
+    let mut lents = Lents::with_rooms(Vec::new(), &rooms, random);
     let [to_shapes, to] = &mut lents.results[..] else {
         unreachable!("two buffers are lent")
     };
@@ -182,6 +173,7 @@ fn compare(shape: &Shape, tally: &mut Tally, random: &mut Random) {
         let size = corners.iter().chain([&radius]);
         tally.fail(size.map(|x| significant_bits(x.to_bits())).sum(), || {
             let families = family::list(&families);
+            let [words, numbers] = &rooms;
             format!("    {families}\n    {corners:?}, {radius:e}, {words}, {numbers}\n    {wrong}")
         });
     }
