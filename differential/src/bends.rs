@@ -1,6 +1,8 @@
 //! The calls that move the points of a path.
 
-use crate::call::{outcome, ACCEPTS, OUTCOMES, REFUSES_5, REFUSES_6, REFUSES_7, REFUSES_9};
+use crate::call::{
+    outcome, place, ACCEPTS, OUTCOMES, PLACES, REFUSES_5, REFUSES_6, REFUSES_7, REFUSES_9,
+};
 use crate::case::Room;
 use crate::compare::{mismatch, Expected};
 use crate::damage::{self, damage};
@@ -14,35 +16,17 @@ use crate::outlines;
 use crate::parameters::ROOM;
 use crate::paths::{Path, CLOSED, SIX};
 use crate::random::Random;
-use crate::refusal::{ARGUMENTS, MOST_ANCHORS, REFERENCE, RESULT};
+use crate::refusal::{MOST_ANCHORS, REFERENCE, RESULT};
 use crate::report::Tally;
 use crate::values::{edge, exponent, integer, near, outside, uniform, Numbers};
 
 const OUTSIDE: [Family; 2] = [damage::OUTSIDE, ("outside", "an argument")];
-
-const PLACES: [Family; 5] = [
-    ("refused", "5 at anchor 0"),
-    ("refused", "5 at a later one"),
-    ("refused", "5 at the count"),
-    ("refused", "9 at anchor 0"),
-    ("refused", "9 at a later one"),
-];
 
 fn draw(random: &mut Random, families: &mut Vec<Family>) -> Path {
     let path = outlines::draw(MOST_ANCHORS, random, families);
     let mut path = Path::of(&path);
     damage(&mut path, families, random);
     path
-}
-
-fn note_place(path: &Path, expected: &Expected, families: &mut Vec<Family>) {
-    let place = expected.answer[0];
-    families.push(match expected.refusal {
-        ARGUMENTS if place == path.anchors() => PLACES[2],
-        ARGUMENTS => PLACES[place.min(1) as usize],
-        RESULT => PLACES[3 + place.min(1) as usize],
-        _ => return,
-    });
 }
 
 static MAPS: Group<fn(&mut Random) -> Affine> = Group {
@@ -110,7 +94,7 @@ fn compare_transform(tally: &mut Tally, random: &mut Random) {
     });
     let short = rooms.iter().any(Room::is_short);
     families.push(outcome(&expected, short));
-    note_place(&path, &expected, &mut families);
+    families.extend(place(&path, &expected));
     tally.count(1, &families);
     let given = vec![
         Lent::holding_words(&path.shapes, random),
@@ -266,7 +250,7 @@ fn compare_edit(
     library: impl FnOnce(&[u32], &mut [f64], &mut Answer) -> u32,
 ) {
     edit.families.push(outcome(expected, false));
-    note_place(&edit.path, expected, &mut edit.families);
+    edit.families.extend(place(&edit.path, expected));
     tally.count(1, &edit.families);
     let mut lents = Lents {
         given: vec![Lent::holding_words(&edit.path.shapes, random)],
@@ -281,9 +265,7 @@ fn compare_edit(
     if let Some(wrong) = mismatch(expected, refusal, &lents) {
         tally.fail(edit.path.size(), || {
             let families = family::list(&edit.families);
-            let Edit {
-                path, arguments, ..
-            } = &edit;
+            let (path, arguments) = (&edit.path, &edit.arguments);
             format!("    {families}\n{path}\n    {arguments}\n    {wrong}")
         });
     }

@@ -5,9 +5,9 @@ use crate::caches::{Cache, DAMAGED, TWELVE, WRITTEN};
 use crate::call::{
     outcome, ACCEPTS, REFUSES_5, REFUSES_7, REFUSES_7_SHORT, REFUSES_8, REFUSES_9, REFUSES_9_SHORT,
 };
-use crate::case::Room;
+use crate::case::{which_short, Room};
 use crate::compare::{mismatch, Expected};
-use crate::drawings::{self, Drawing, KINDS};
+use crate::drawings::{self, Drawing};
 use crate::family::Family;
 use crate::ffi;
 use crate::guard::{Entry, Lent};
@@ -85,11 +85,8 @@ fn built(drawing: &mut Drawing, rooms: &[Room; 2]) -> Expected {
     if !drawing.is_readable() || rooms.iter().any(Room::is_short) {
         return Expected::refused(LISTS);
     }
-    if let Some(place) = drawing.first_outside() {
+    if let Some(place) = drawing.first_wrong() {
         return Expected::refused_at(place, ARGUMENTS);
-    }
-    if drawing.kind as usize >= KINDS.len() {
-        return Expected::refused_at(drawing.path.anchors() as usize, ARGUMENTS);
     }
     let cache = Cache::of(drawing);
     if let Some(place) = cache.first_outside() {
@@ -112,11 +109,7 @@ fn note_place(drawing: &mut Drawing, expected: &Expected, rooms: &[Room; 2]) {
         ARGUMENTS if place == drawing.path.anchors() => 2,
         ARGUMENTS => place.min(1) as usize,
         RESULT => 3 + place.min(1) as usize,
-        LISTS if drawing.is_readable() => match rooms.each_ref().map(Room::is_short) {
-            [true, false] => 5,
-            [false, true] => 6,
-            _ => 7,
-        },
+        LISTS if drawing.is_readable() => 5 + which_short(rooms),
         _ => return,
     };
     drawing.families.push(PLACES[place]);

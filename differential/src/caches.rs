@@ -4,7 +4,7 @@ use crate::damage::{far_more, one_more, put_outside, shorten, wrap};
 use crate::drawings::Drawing;
 use crate::family::{self, Family, Group};
 use crate::original::placed;
-use crate::paths::{size, Path, CLOSED, SIX};
+use crate::paths::{count, size, Path, CLOSED, SIX};
 use crate::random::Random;
 use crate::refusal::{in_limit, MOST_ANCHORS, MOST_SUBPATHS};
 use crate::values::{nan, outside, uniform};
@@ -75,8 +75,7 @@ impl Cache {
     }
 
     pub fn places(&self) -> u64 {
-        let counts = self.shapes.iter().map(|&word| word & !CLOSED);
-        counts.map(u64::from).sum()
+        count(&self.shapes)
     }
 
     /// Whether document 01 does not refuse its lists, 7.

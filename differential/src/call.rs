@@ -4,6 +4,7 @@ use crate::case::Case;
 use crate::compare::{mismatch, Answered, Expected};
 use crate::family::Family;
 use crate::lents::Lents;
+use crate::paths::Path;
 use crate::random::Random;
 use crate::refusal::{ACCEPTED, ARGUMENTS, CAPACITY, LISTS, OUTPUT, REFERENCE, RESULT};
 use crate::report::Tally;
@@ -64,6 +65,25 @@ pub const OUTCOMES: [Family; 8] = [
     REFUSES_9_SHORT,
     REFUSES_8,
 ];
+
+/// Where a path is refused 5 and 9.
+pub const PLACES: [Family; 5] = [
+    ("refused", "5 at anchor 0"),
+    ("refused", "5 at a later one"),
+    ("refused", "5 at the count"),
+    ("refused", "9 at anchor 0"),
+    ("refused", "9 at a later one"),
+];
+
+pub fn place(path: &Path, expected: &Expected) -> Option<Family> {
+    let place = expected.answer[0];
+    match expected.refusal {
+        ARGUMENTS if place == path.anchors() => Some(PLACES[2]),
+        ARGUMENTS => Some(PLACES[place.min(1) as usize]),
+        RESULT => Some(PLACES[3 + place.min(1) as usize]),
+        _ => None,
+    }
+}
 
 pub fn outcome(expected: &Expected, short: bool) -> Family {
     match (expected.refusal, short) {

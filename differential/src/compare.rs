@@ -44,7 +44,7 @@ impl Expected {
         }
     }
 
-    /// Document 01's refusals 7 and 5 of a path. The arguments beside it are refused at the anchor count.
+    /// Document 01's refusals 7 and 5 of a path, and of the arguments beside it, at the anchor count.
     pub fn refusal_of(path: &Path, most_anchors: usize, arguments: &[f64]) -> Option<Expected> {
         if !path.is_readable(most_anchors) {
             return Some(Expected::refused(LISTS));
@@ -56,7 +56,7 @@ impl Expected {
         place.map(|place| Expected::refused_at(place, ARGUMENTS))
     }
 
-    /// Its refusals 9 and 8 of a path that goes to buffers, else that path.
+    /// Document 01's refusals 9 and 8 of a path that goes to lent buffers, else that path.
     pub fn made(made: &Path, rooms: &[Room; 2]) -> Expected {
         if let Some(place) = made.first_outside() {
             return Expected::refused_at(place, RESULT);

@@ -2,18 +2,19 @@
 
 use crate::branches;
 use crate::call::{outcome, OUTCOMES};
-use crate::case::Room;
+use crate::case::{which_short, Room};
 use crate::compare::{mismatch, Expected};
 use crate::damage::{self, damage};
 use crate::family::{self, Family};
 use crate::ffi;
 use crate::guard::Lent;
+use crate::kept::first_place;
 use crate::lents::Lents;
 use crate::original::bezier::{path_corners, Corner};
 use crate::original::counted;
 use crate::outlines;
 use crate::parameters::ROOM;
-use crate::paths::{Path, CLOSED};
+use crate::paths::Path;
 use crate::random::Random;
 use crate::refusal::{in_limit, ACCEPTED, ARGUMENTS, MOST_ANCHORS, OUTPUT, RESULT};
 use crate::report::Tally;
@@ -71,9 +72,9 @@ fn compare(random: &mut Random, tally: &mut Tally) {
     let count = found.as_ref().map_or(4, Listed::count);
     let rooms = [count, NINE * count].map(|need| Room::draw(need, random, &mut families));
     let expected = expected(found, &rooms);
-    let short = rooms.each_ref().map(Room::is_short);
-    families.push(outcome(&expected, short.contains(&true)));
-    families.extend(place(&expected, short));
+    let short = rooms.iter().any(Room::is_short);
+    families.push(outcome(&expected, short));
+    families.extend(place(&expected, &rooms));
     tally.count(1, &families);
     let given = vec![
         Lent::holding_words(&path.shapes, random),
@@ -110,10 +111,7 @@ fn found(path: &Path) -> Result<Listed, Expected> {
     let corners = path_corners(&path.original());
     let place = |c: &Corner| {
         let (s, i) = c.at_ref;
-        let before = path.shapes[..s]
-            .iter()
-            .map(|word| u64::from(word & !CLOSED));
-        before.sum::<u64>() + i as u64
+        (first_place(path, s) + i) as u64
     };
     let numbers = |c: &Corner| {
         let Corner { at, u, v, .. } = *c;
@@ -165,14 +163,10 @@ fn note_corners(path: &Path, found: &Listed, families: &mut Vec<Family>) {
     }
 }
 
-fn place(expected: &Expected, short: [bool; 2]) -> Option<Family> {
+fn place(expected: &Expected, rooms: &[Room; 2]) -> Option<Family> {
     let place = match expected.refusal {
         ARGUMENTS => expected.answer[0].min(1) as usize,
-        OUTPUT => match short {
-            [true, false] => 4,
-            [false, true] => 5,
-            _ => 6,
-        },
+        OUTPUT => 4 + which_short(rooms),
         _ => return None,
     };
     Some(PLACES[place])

@@ -1,10 +1,10 @@
 //! The corner cut of a drawing.
 
 use crate::branches;
-use crate::call::{outcome, OUTCOMES};
-use crate::case::Room;
+use crate::call::{outcome, place, OUTCOMES, PLACES};
+use crate::case::{which_short, Room};
 use crate::compare::{mismatch, Expected};
-use crate::drawings::{self, Drawing, KINDS};
+use crate::drawings::{self, Drawing};
 use crate::family::Family;
 use crate::ffi;
 use crate::guard::Lent;
@@ -13,17 +13,12 @@ use crate::original::counted;
 use crate::parameters::ROOM;
 use crate::paths::{Path, SIX};
 use crate::random::Random;
-use crate::refusal::{ARGUMENTS, LISTS, MOST_ANCHORS, MOST_SUBPATHS, OUTPUT, RESULT};
+use crate::refusal::{ARGUMENTS, LISTS, MOST_ANCHORS, MOST_SUBPATHS, OUTPUT};
 use crate::report::Tally;
 use crate::samples;
 
-/// Where a drawing is refused, and by which buffer.
-const PLACES: [Family; 8] = [
-    ("refused", "5 at anchor 0"),
-    ("refused", "5 at a later one"),
-    ("refused", "5 at the count"),
-    ("refused", "9 at anchor 0"),
-    ("refused", "9 at a later one"),
+/// Which buffer a cut is refused for.
+const SHORT: [Family; 3] = [
     ("refused", "8 for the words"),
     ("refused", "8 for the numbers"),
     ("refused", "8 for both"),
@@ -33,6 +28,7 @@ pub fn run(cases: u64, random: &mut Random) -> Tally {
     let families = [
         OUTCOMES.to_vec(),
         PLACES.to_vec(),
+        SHORT.to_vec(),
         branches::FAMILIES.to_vec(),
         samples::families(),
         drawings::families(),
@@ -80,12 +76,8 @@ fn cut(drawing: &Drawing) -> Result<Path, Expected> {
     if !drawing.is_readable() {
         return Err(Expected::refused(LISTS));
     }
-    if let Some(place) = drawing.first_outside() {
+    if let Some(place) = drawing.first_wrong() {
         return Err(Expected::refused_at(place, ARGUMENTS));
-    }
-    if drawing.kind as usize >= KINDS.len() {
-        let anchors = drawing.path.anchors() as usize;
-        return Err(Expected::refused_at(anchors, ARGUMENTS));
     }
     Ok(Path::of(&drawing.cut()))
 }
@@ -118,23 +110,12 @@ fn note_branches(drawing: &mut Drawing) {
 }
 
 fn note_outcome(drawing: &mut Drawing, expected: &Expected, rooms: &[Room; 2]) {
-    let short = rooms.each_ref().map(Room::is_short);
-    drawing
-        .families
-        .push(outcome(expected, short.contains(&true)));
-    let place = expected.answer[0];
-    let place = match expected.refusal {
-        ARGUMENTS if place == drawing.path.anchors() => 2,
-        ARGUMENTS => place.min(1) as usize,
-        RESULT => 3 + place.min(1) as usize,
-        OUTPUT => match short {
-            [true, false] => 5,
-            [false, true] => 6,
-            _ => 7,
-        },
-        _ => return,
-    };
-    drawing.families.push(PLACES[place]);
+    let short = rooms.iter().any(Room::is_short);
+    drawing.families.push(outcome(expected, short));
+    drawing.families.extend(place(&drawing.path, expected));
+    if expected.refusal == OUTPUT {
+        drawing.families.push(SHORT[which_short(rooms)]);
+    }
 }
 
 fn library(drawing: &Drawing, lents: &mut Lents) -> u32 {

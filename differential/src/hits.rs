@@ -2,6 +2,7 @@
 
 use crate::call::{outcome, ACCEPTS, REFUSES_5, REFUSES_7};
 use crate::compare::{mismatch, Expected};
+use crate::curves::is_straight;
 use crate::damage::{self, damage};
 use crate::family::{self, Family, Group};
 use crate::ffi;
@@ -296,11 +297,7 @@ fn note_segment(path: &BezPath, hit: Option<(usize, usize, f64)>, families: &mut
     let sp = &path[s];
     let b = (a + 1) % sp.anchors.len();
     let c = sp.cubic(a, b);
-    families.push(if c[1] == c[0] && c[2] == c[3] {
-        LINE
-    } else {
-        CURVE
-    });
+    families.push(if is_straight(&c) { LINE } else { CURVE });
     if b == 0 {
         families.push(CLOSING);
     }

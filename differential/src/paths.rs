@@ -30,10 +30,9 @@ impl Path {
         }
     }
 
-    /// Anchors that the shape words call for, in a sum that cannot wrap.
+    /// Anchors that the shape words call for.
     pub fn anchors(&self) -> u64 {
-        let counts = self.shapes.iter().map(|&word| word & !CLOSED);
-        counts.map(u64::from).sum()
+        count(&self.shapes)
     }
 
     /// Whether it may be read: whether document 01 does not refuse its lists, 7.
@@ -90,6 +89,11 @@ impl Path {
     pub fn size(&self) -> u64 {
         size(&self.numbers) + self.shapes.len() as u64
     }
+}
+
+/// Anchors that shape words call for, in a sum that cannot wrap.
+pub fn count(shapes: &[u32]) -> u64 {
+    shapes.iter().map(|&word| u64::from(word & !CLOSED)).sum()
 }
 
 pub fn size(numbers: &[f64]) -> u64 {

@@ -3,7 +3,7 @@
 //! would fail for having no such family.
 
 use crate::call::{outcome, ACCEPTS, REFUSES_5, REFUSES_5_SHORT, REFUSES_8};
-use crate::case::{significant_bits, Room};
+use crate::case::{significant_bits, which_short, Room};
 use crate::compare::{mismatch, Expected};
 use crate::family::{self, Family, Group};
 use crate::ffi::{self, Answer};
@@ -190,13 +190,9 @@ fn note_box([ax, ay, bx, by]: [f64; 4], families: &mut Vec<Family>) {
 }
 
 fn note_outcome(expected: &Expected, rooms: &[Room; 2], families: &mut Vec<Family>) {
-    let short = rooms.each_ref().map(Room::is_short);
-    families.push(outcome(expected, short.contains(&true)));
+    let short = rooms.iter().any(Room::is_short);
+    families.push(outcome(expected, short));
     if expected.refusal == OUTPUT {
-        families.push(match short {
-            [true, false] => SHORT[0],
-            [false, true] => SHORT[1],
-            _ => SHORT[2],
-        });
+        families.push(SHORT[which_short(rooms)]);
     }
 }

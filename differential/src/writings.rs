@@ -1,5 +1,6 @@
 //! Paths to write: drawn ones and cut ones, then damaged.
 
+use crate::curves::is_straight;
 use crate::damage::{self, damage};
 use crate::drawings::Drawing;
 use crate::family::{self, Family};
@@ -84,9 +85,8 @@ fn note_segments(path: &BezPath, families: &mut Vec<Family>) {
 fn segment(sp: &SubPath, a: usize, b: usize) -> Family {
     let c = sp.cubic(a, b);
     let bits = c.map(|p| (p.x.to_bits(), p.y.to_bits()));
-    let straight = c[1] == c[0] && c[2] == c[3];
     let same_bits = bits[1] == bits[0] && bits[2] == bits[3];
-    let way = match (straight, same_bits) {
+    let way = match (is_straight(&c), same_bits) {
         (true, true) => 0,
         (true, false) => 1,
         (false, _) => 2,
