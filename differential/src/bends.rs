@@ -1,15 +1,14 @@
 //! The calls that move the points of a path.
 
 use crate::call::{
-    outcome, ACCEPTS, REFUSES_5, REFUSES_5_SHORT, REFUSES_6, REFUSES_7, REFUSES_7_SHORT, REFUSES_8,
-    REFUSES_9, REFUSES_9_SHORT,
+    outcome, place, ACCEPTS, OUTCOMES, PLACES, REFUSES_5, REFUSES_6, REFUSES_7, REFUSES_9,
 };
 use crate::case::Room;
 use crate::compare::{mismatch, Expected};
-use crate::damage::{far_more, lengthen, one_more, put_outside, shorten, wrap};
+use crate::damage::{self, damage};
 use crate::family::{self, Family, Group};
-use crate::ffi;
-use crate::guard::{Entry, Lent};
+use crate::ffi::{self, Answer};
+use crate::guard::Lent;
 use crate::lents::Lents;
 use crate::original::bezier::{self, BezPath};
 use crate::original::geom::{Affine, P};
@@ -17,87 +16,17 @@ use crate::outlines;
 use crate::parameters::ROOM;
 use crate::paths::{Path, CLOSED, SIX};
 use crate::random::Random;
-use crate::refusal::{
-    in_limit, ACCEPTED, ARGUMENTS, LISTS, MOST_ANCHORS, OUTPUT, REFERENCE, RESULT,
-};
+use crate::refusal::{MOST_ANCHORS, REFERENCE, RESULT};
 use crate::report::Tally;
 use crate::values::{edge, exponent, integer, near, outside, uniform, Numbers};
 
-type Damage = fn(&mut Path, &mut Random);
-
-/// What is done to a path's lists before a call.
-static WHOLE: Group<Damage> = Group {
-    name: "lists",
-    ways: &[
-        ("exact", |_, _| {}),
-        // What stands there breaks every rule, and is not read.
-        ("longer", |path, random| lengthen(&mut path.numbers, random)),
-    ],
-};
-
-static DAMAGED: Group<Damage> = Group {
-    name: "lists",
-    ways: &[
-        ("a number short", |path, _| {
-            path.numbers.pop();
-        }),
-        ("short", |path, random| shorten(&mut path.numbers, random)),
-        ("an anchor more", |path, random| {
-            one_more(&mut path.shapes, random)
-        }),
-        ("far more anchors", |path, random| {
-            far_more(&mut path.shapes, random)
-        }),
-        ("counts that wrap", |path, random| {
-            wrap(&mut path.shapes, random)
-        }),
-    ],
-};
-
-const OUTSIDE: [Family; 2] = [("outside", "a number"), ("outside", "an argument")];
-
-const PLACES: [Family; 5] = [
-    ("refused", "5 at anchor 0"),
-    ("refused", "5 at a later one"),
-    ("refused", "5 at the count"),
-    ("refused", "9 at anchor 0"),
-    ("refused", "9 at a later one"),
-];
+const OUTSIDE: [Family; 2] = [damage::OUTSIDE, ("outside", "an argument")];
 
 fn draw(random: &mut Random, families: &mut Vec<Family>) -> Path {
     let path = outlines::draw(MOST_ANCHORS, random, families);
     let mut path = Path::of(&path);
-    let lists = if random.one_in(8) { &DAMAGED } else { &WHOLE };
-    lists.draw(random, families)(&mut path, random);
-    if random.one_in(12) {
-        put_outside(&mut path.numbers, random);
-        families.push(OUTSIDE[0]);
-    }
+    damage(&mut path, families, random);
     path
-}
-
-/// Document 01's refusals 7 and 5.
-fn refused(path: &Path, arguments: &[f64]) -> Option<Expected> {
-    if !path.is_readable(MOST_ANCHORS) {
-        return Some(Expected::refused(LISTS));
-    }
-    if let Some(place) = path.first_outside() {
-        return Some(Expected::refused_at(place, ARGUMENTS));
-    }
-    if !arguments.iter().all(|&x| in_limit(x)) {
-        return Some(Expected::refused_at(path.anchors() as usize, ARGUMENTS));
-    }
-    None
-}
-
-fn note_place(path: &Path, expected: &Expected, families: &mut Vec<Family>) {
-    let place = expected.answer[0];
-    families.push(match expected.refusal {
-        ARGUMENTS if place == path.anchors() => PLACES[2],
-        ARGUMENTS => PLACES[place.min(1) as usize],
-        RESULT => PLACES[3 + place.min(1) as usize],
-        _ => return,
-    });
 }
 
 static MAPS: Group<fn(&mut Random) -> Affine> = Group {
@@ -128,24 +57,13 @@ static MAPS: Group<fn(&mut Random) -> Affine> = Group {
 };
 
 pub fn transform(cases: u64, random: &mut Random) -> Tally {
-    let outcomes = vec![
-        ACCEPTS,
-        REFUSES_7,
-        REFUSES_7_SHORT,
-        REFUSES_5,
-        REFUSES_5_SHORT,
-        REFUSES_9,
-        REFUSES_9_SHORT,
-        REFUSES_8,
-    ];
     let families = [
-        outcomes,
+        OUTCOMES.to_vec(),
         PLACES.to_vec(),
         OUTSIDE.to_vec(),
         MAPS.families(),
         outlines::families(),
-        WHOLE.families(),
-        DAMAGED.families(),
+        damage::families(),
         ROOM.families(),
     ];
     let mut tally = Tally::new("transform", families.concat());
@@ -163,31 +81,27 @@ fn compare_transform(tally: &mut Tally, random: &mut Random) {
         m[random.below(6) as usize] = outside(random);
         families.push(OUTSIDE[1]);
     }
-    let refused = refused(&path, &m);
+    let refused = Expected::refusal_of(&path, MOST_ANCHORS, &m);
     let needs = match refused {
         None => [path.shapes.len(), SIX * path.anchors() as usize],
         // What stands in for a result that there is not.
         Some(_) => [1 + path.shapes.len().min(32), 24],
     };
     let rooms = needs.map(|need| Room::draw(need, random, &mut families));
-    let expected = refused.unwrap_or_else(|| mapped(&path, m, &rooms));
+    let expected = refused.unwrap_or_else(|| {
+        let made = bezier::transform(&path.original(), m);
+        Expected::made(&Path::of(&made), &rooms)
+    });
     let short = rooms.iter().any(Room::is_short);
     families.push(outcome(&expected, short));
-    note_place(&path, &expected, &mut families);
+    families.extend(place(&path, &expected));
     tally.count(1, &families);
-    let [words, numbers] = &rooms;
-    let mut lents = Lents {
-        given: vec![
-            Lent::holding_words(&path.shapes, random),
-            Lent::holding(&path.numbers, random),
-            Lent::holding(&m, random),
-        ],
-        results: vec![
-            Lent::foreign(Entry::Word, words.lent, random),
-            Lent::foreign(Entry::Number, numbers.lent, random),
-        ],
-        answer: Lent::for_answer(random),
-    };
+    let given = vec![
+        Lent::holding_words(&path.shapes, random),
+        Lent::holding(&path.numbers, random),
+        Lent::holding(&m, random),
+    ];
+    let mut lents = Lents::with_rooms(given, &rooms, random);
     let ([shapes, anchors, map], [to_shapes, to]) = (&mut lents.given[..], &mut lents.results[..])
     else {
         unreachable!("three lists are given, and two buffers lent")
@@ -203,27 +117,9 @@ fn compare_transform(tally: &mut Tally, random: &mut Random) {
     if let Some(wrong) = mismatch(&expected, refusal, &lents) {
         tally.fail(path.size(), || {
             let families = family::list(&families);
+            let [words, numbers] = &rooms;
             format!("    {families}\n{path}\n    {m:?}, {words}, {numbers}\n    {wrong}")
         });
-    }
-}
-
-/// 9 and 8, else the original's path.
-fn mapped(path: &Path, m: Affine, rooms: &[Room; 2]) -> Expected {
-    let made = Path::of(&bezier::transform(&path.original(), m));
-    if let Some(place) = made.first_outside() {
-        return Expected::refused_at(place, RESULT);
-    }
-    if rooms.iter().any(Room::is_short) {
-        return Expected::refused(OUTPUT);
-    }
-    Expected {
-        refusal: ACCEPTED,
-        answer: [0, made.anchors(), made.shapes.len() as u64, 0],
-        written: vec![
-            made.shapes.iter().copied().map(u64::from).collect(),
-            made.numbers.iter().map(|x| x.to_bits()).collect(),
-        ],
     }
 }
 
@@ -276,8 +172,7 @@ pub fn auto_smooth(cases: u64, random: &mut Random) -> Tally {
         EDITED.to_vec(),
         NAMES.families(),
         outlines::families(),
-        WHOLE.families(),
-        DAMAGED.families(),
+        damage::families(),
     ];
     let mut tally = Tally::new("auto_smooth", families.concat());
     for _ in 0..cases {
@@ -290,7 +185,7 @@ fn compare_smooth(tally: &mut Tally, random: &mut Random) {
     let mut families = Vec::new();
     let path = draw(random, &mut families);
     let [s, k] = NAMES.draw(random, &mut families)(&path, random);
-    let expected = match refused(&path, &[]) {
+    let expected = match Expected::refusal_of(&path, MOST_ANCHORS, &[]) {
         Some(refused) => refused,
         None if k >= count_of(&path, s) as usize => Expected::refused(REFERENCE),
         None => {
@@ -300,27 +195,15 @@ fn compare_smooth(tally: &mut Tally, random: &mut Random) {
             edited_in_place(&edited)
         }
     };
-    families.push(outcome(&expected, false));
-    note_place(&path, &expected, &mut families);
-    tally.count(1, &families);
-    let mut lents = Lents {
-        given: vec![Lent::holding_words(&path.shapes, random)],
-        results: vec![Lent::holding(&path.numbers, random)],
-        answer: Lent::for_answer(random),
+    let arguments = format!("subpath {s}, anchor {k}");
+    let edit = Edit {
+        families,
+        path,
+        arguments,
     };
-    let refusal = ffi::auto_smooth(
-        lents.given[0].words(),
-        lents.results[0].numbers(),
-        s,
-        k,
-        lents.answer.answer(),
-    );
-    if let Some(wrong) = mismatch(&expected, refusal, &lents) {
-        tally.fail(path.size(), || {
-            let families = family::list(&families);
-            format!("    {families}\n{path}\n    subpath {s}, anchor {k}\n    {wrong}")
-        });
-    }
+    compare_edit(edit, &expected, tally, random, |shapes, anchors, answer| {
+        ffi::auto_smooth(shapes, anchors, s, k, answer)
+    });
 }
 
 fn note_smooth(path: &Path, s: usize, k: usize, edited: &BezPath, families: &mut Vec<Family>) {
@@ -349,10 +232,42 @@ fn edited_in_place(edited: &BezPath) -> Expected {
     if let Some(place) = made.first_outside() {
         return Expected::refused_at(place, RESULT);
     }
-    Expected {
-        refusal: ACCEPTED,
-        answer: [0, made.anchors(), made.shapes.len() as u64, 0],
-        written: vec![made.numbers.iter().map(|x| x.to_bits()).collect()],
+    Expected::numbers(&made)
+}
+
+/// A call that edits a path in place.
+struct Edit {
+    families: Vec<Family>,
+    path: Path,
+    arguments: String,
+}
+
+fn compare_edit(
+    mut edit: Edit,
+    expected: &Expected,
+    tally: &mut Tally,
+    random: &mut Random,
+    library: impl FnOnce(&[u32], &mut [f64], &mut Answer) -> u32,
+) {
+    edit.families.push(outcome(expected, false));
+    edit.families.extend(place(&edit.path, expected));
+    tally.count(1, &edit.families);
+    let mut lents = Lents {
+        given: vec![Lent::holding_words(&edit.path.shapes, random)],
+        results: vec![Lent::holding(&edit.path.numbers, random)],
+        answer: Lent::for_answer(random),
+    };
+    let refusal = library(
+        lents.given[0].words(),
+        lents.results[0].numbers(),
+        lents.answer.answer(),
+    );
+    if let Some(wrong) = mismatch(expected, refusal, &lents) {
+        tally.fail(edit.path.size(), || {
+            let families = family::list(&edit.families);
+            let (path, arguments) = (&edit.path, &edit.arguments);
+            format!("    {families}\n{path}\n    {arguments}\n    {wrong}")
+        });
     }
 }
 
@@ -412,8 +327,7 @@ pub fn bend_segment(cases: u64, random: &mut Random) -> Tally {
         DELTA.families(),
         KEEP.families(),
         outlines::families(),
-        WHOLE.families(),
-        DAMAGED.families(),
+        damage::families(),
     ];
     let mut tally = Tally::new("bend_segment", families.concat());
     for _ in 0..cases {
@@ -437,39 +351,26 @@ fn compare_bend(tally: &mut Tally, random: &mut Random) {
         pull[random.below(3) as usize] = outside(random);
         families.push(OUTSIDE[1]);
     }
-    let expected = match refused(&path, &pull) {
+    let [t, dx, dy] = pull;
+    let expected = match Expected::refusal_of(&path, MOST_ANCHORS, &pull) {
         Some(refused) => refused,
         None if !is_known(&path, s, a) => Expected::refused(REFERENCE),
         None => {
             let mut edited = path.original();
             note_bend(&edited, s, a, keep != 0, &mut families);
-            let [t, x, y] = pull;
-            bezier::bend_segment(&mut edited[s], a, t, P::new(x, y), keep != 0);
+            bezier::bend_segment(&mut edited[s], a, t, P::new(dx, dy), keep != 0);
             edited_in_place(&edited)
         }
     };
-    families.push(outcome(&expected, false));
-    note_place(&path, &expected, &mut families);
-    tally.count(1, &families);
-    let mut lents = Lents {
-        given: vec![Lent::holding_words(&path.shapes, random)],
-        results: vec![Lent::holding(&path.numbers, random)],
-        answer: Lent::for_answer(random),
+    let arguments = format!("subpath {s}, anchor {a}, {pull:?}, {keep}");
+    let edit = Edit {
+        families,
+        path,
+        arguments,
     };
-    let refusal = ffi::bend_segment(
-        lents.given[0].words(),
-        lents.results[0].numbers(),
-        [s, a],
-        pull,
-        keep,
-        lents.answer.answer(),
-    );
-    if let Some(wrong) = mismatch(&expected, refusal, &lents) {
-        tally.fail(path.size(), || {
-            let families = family::list(&families);
-            format!("    {families}\n{path}\n    subpath {s}, anchor {a}, {pull:?}, {keep}\n    {wrong}")
-        });
-    }
+    compare_edit(edit, &expected, tally, random, |shapes, anchors, answer| {
+        ffi::bend_segment(shapes, anchors, s, a, t, dx, dy, keep, answer)
+    });
 }
 
 /// By document 01: a start of `segments` from 2 anchors up, index 0 of one anchor.

@@ -5,9 +5,9 @@ use crate::caches::{Cache, DAMAGED, TWELVE, WRITTEN};
 use crate::call::{
     outcome, ACCEPTS, REFUSES_5, REFUSES_7, REFUSES_7_SHORT, REFUSES_8, REFUSES_9, REFUSES_9_SHORT,
 };
-use crate::case::Room;
+use crate::case::{which_short, Room};
 use crate::compare::{mismatch, Expected};
-use crate::drawings::{self, Drawing, KINDS};
+use crate::drawings::{self, Drawing};
 use crate::family::Family;
 use crate::ffi;
 use crate::guard::{Entry, Lent};
@@ -15,7 +15,7 @@ use crate::lents::Lents;
 use crate::parameters::ROOM;
 use crate::paths::{Path, SIX};
 use crate::random::Random;
-use crate::refusal::{ACCEPTED, ARGUMENTS, LISTS, MOST_ANCHORS, MOST_SUBPATHS, OUTPUT, RESULT};
+use crate::refusal::{ACCEPTED, ARGUMENTS, LISTS, MOST_ANCHORS, MOST_SUBPATHS, RESULT};
 use crate::report::Tally;
 
 /// Where 5 and 9 are reported, and which list is too short.
@@ -85,11 +85,8 @@ fn built(drawing: &mut Drawing, rooms: &[Room; 2]) -> Expected {
     if !drawing.is_readable() || rooms.iter().any(Room::is_short) {
         return Expected::refused(LISTS);
     }
-    if let Some(place) = drawing.first_outside() {
+    if let Some(place) = drawing.first_wrong() {
         return Expected::refused_at(place, ARGUMENTS);
-    }
-    if drawing.kind as usize >= KINDS.len() {
-        return Expected::refused_at(drawing.path.anchors() as usize, ARGUMENTS);
     }
     let cache = Cache::of(drawing);
     if let Some(place) = cache.first_outside() {
@@ -112,11 +109,7 @@ fn note_place(drawing: &mut Drawing, expected: &Expected, rooms: &[Room; 2]) {
         ARGUMENTS if place == drawing.path.anchors() => 2,
         ARGUMENTS => place.min(1) as usize,
         RESULT => 3 + place.min(1) as usize,
-        LISTS if drawing.is_readable() => match rooms.each_ref().map(Room::is_short) {
-            [true, false] => 5,
-            [false, true] => 6,
-            _ => 7,
-        },
+        LISTS if drawing.is_readable() => 5 + which_short(rooms),
         _ => return,
     };
     drawing.families.push(PLACES[place]);
@@ -198,47 +191,25 @@ fn compare_assemble(mut cache: Cache, tally: &mut Tally, random: &mut Random) {
         ],
     };
     let rooms = needs.map(|need| Room::draw(need, random, &mut cache.families));
-    let expected = handed_over(assembled, &rooms);
+    let expected = match assembled {
+        Some(path) => Expected::made(&path, &rooms),
+        None => Expected::refused(LISTS),
+    };
     let short = rooms.iter().any(Room::is_short);
     cache.families.push(outcome(&expected, short));
     tally.count(1, &cache.families);
-    let [words, numbers] = &rooms;
-    let mut lents = Lents {
-        given: vec![
-            Lent::holding_words(&cache.shapes, random),
-            Lent::holding(&cache.numbers, random),
-            Lent::holding_words(&cache.flags, random),
-        ],
-        results: vec![
-            Lent::foreign(Entry::Word, words.lent, random),
-            Lent::foreign(Entry::Number, numbers.lent, random),
-        ],
-        answer: Lent::for_answer(random),
-    };
+    let given = vec![
+        Lent::holding_words(&cache.shapes, random),
+        Lent::holding(&cache.numbers, random),
+        Lent::holding_words(&cache.flags, random),
+    ];
+    let mut lents = Lents::with_rooms(given, &rooms, random);
     let refusal = library_assemble(&mut lents);
     if let Some(wrong) = mismatch(&expected, refusal, &lents) {
         tally.fail(cache.size(), || {
+            let [words, numbers] = &rooms;
             format!("{cache}, {words}, {numbers}\n    {wrong}")
         });
-    }
-}
-
-/// In document 01's order: 7, 9 at the index in the path, 8.
-fn handed_over(assembled: Option<Path>, rooms: &[Room; 2]) -> Expected {
-    let Some(path) = assembled else {
-        return Expected::refused(LISTS);
-    };
-    if let Some(place) = path.first_outside() {
-        return Expected::refused_at(place, RESULT);
-    }
-    if rooms.iter().any(Room::is_short) {
-        return Expected::refused(OUTPUT);
-    }
-    let words = path.shapes.iter().copied().map(u64::from);
-    Expected {
-        refusal: ACCEPTED,
-        answer: [0, path.anchors(), path.shapes.len() as u64, 0],
-        written: vec![words.collect(), bits(&path.numbers)],
     }
 }
 

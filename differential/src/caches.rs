@@ -1,9 +1,10 @@
 //! Caches as document 01 lays them out ('Kept outline'), and what they assemble to.
 
+use crate::damage::{far_more, one_more, put_outside, shorten, wrap};
 use crate::drawings::Drawing;
 use crate::family::{self, Family, Group};
 use crate::original::placed;
-use crate::paths::{size, Path, CLOSED, SIX};
+use crate::paths::{count, size, Path, CLOSED, SIX};
 use crate::random::Random;
 use crate::refusal::{in_limit, MOST_ANCHORS, MOST_SUBPATHS};
 use crate::values::{nan, outside, uniform};
@@ -74,8 +75,7 @@ impl Cache {
     }
 
     pub fn places(&self) -> u64 {
-        let counts = self.shapes.iter().map(|&word| word & !CLOSED);
-        counts.map(u64::from).sum()
+        count(&self.shapes)
     }
 
     /// Whether document 01 does not refuse its lists, 7.
@@ -162,10 +162,7 @@ pub static WRITTEN: Group<Damage> = Group {
             cache.numbers.fill_with(|| uniform(random));
         }),
         ("a number outside", |cache, random| {
-            if !cache.numbers.is_empty() {
-                let at = random.below(cache.numbers.len() as u64) as usize;
-                cache.numbers[at] = outside(random);
-            }
+            put_outside(&mut cache.numbers, random)
         }),
         ("several outside", |cache, random| {
             for x in &mut cache.numbers {
@@ -189,24 +186,22 @@ pub static DAMAGED: Group<Damage> = Group {
             cache.numbers.pop();
         }),
         ("numbers short", |cache, random| {
-            let kept = random.below(cache.numbers.len() as u64 + 1) as usize;
-            cache.numbers.truncate(kept);
+            shorten(&mut cache.numbers, random)
         }),
         ("a flag short", |cache, _| {
             cache.flags.pop();
         }),
         ("flags short", |cache, random| {
-            let kept = random.below(cache.flags.len() as u64 + 1) as usize;
-            cache.flags.truncate(kept);
+            shorten(&mut cache.flags, random)
         }),
         ("a place more", |cache, random| {
-            crate::damage::one_more(&mut cache.shapes, random)
+            one_more(&mut cache.shapes, random)
         }),
         ("far more places", |cache, random| {
-            crate::damage::far_more(&mut cache.shapes, random)
+            far_more(&mut cache.shapes, random)
         }),
         ("counts that wrap", |cache, random| {
-            crate::damage::wrap(&mut cache.shapes, random)
+            wrap(&mut cache.shapes, random)
         }),
         ("33 subpaths", |cache, _| {
             cache.shapes.resize(MOST_SUBPATHS + 1, 0)

@@ -4,8 +4,9 @@ use crate::case::Case;
 use crate::compare::{mismatch, Answered, Expected};
 use crate::family::Family;
 use crate::lents::Lents;
+use crate::paths::Path;
 use crate::random::Random;
-use crate::refusal::{ACCEPTED, ARGUMENTS, LISTS, OUTPUT, REFERENCE, RESULT};
+use crate::refusal::{ACCEPTED, ARGUMENTS, CAPACITY, LISTS, OUTPUT, REFERENCE, RESULT};
 use crate::report::Tally;
 
 pub struct Call {
@@ -48,9 +49,41 @@ pub const REFUSES_7_SHORT: Family = ("outcome", "refused 7, and short");
 pub const REFUSES_5: Family = ("outcome", "refused 5");
 pub const REFUSES_5_SHORT: Family = ("outcome", "refused 5, and short");
 pub const REFUSES_6: Family = ("outcome", "refused 6");
+pub const REFUSES_10: Family = ("outcome", "refused 10");
 pub const REFUSES_9: Family = ("outcome", "refused 9");
 pub const REFUSES_9_SHORT: Family = ("outcome", "refused 9, and short");
 pub const REFUSES_8: Family = ("outcome", "refused 8");
+
+/// What a call comes out in that reads a path and is lent buffers for its result.
+pub const OUTCOMES: [Family; 8] = [
+    ACCEPTS,
+    REFUSES_7,
+    REFUSES_7_SHORT,
+    REFUSES_5,
+    REFUSES_5_SHORT,
+    REFUSES_9,
+    REFUSES_9_SHORT,
+    REFUSES_8,
+];
+
+/// Where a path is refused 5 and 9.
+pub const PLACES: [Family; 5] = [
+    ("refused", "5 at anchor 0"),
+    ("refused", "5 at a later one"),
+    ("refused", "5 at the count"),
+    ("refused", "9 at anchor 0"),
+    ("refused", "9 at a later one"),
+];
+
+pub fn place(path: &Path, expected: &Expected) -> Option<Family> {
+    let place = expected.answer[0];
+    match expected.refusal {
+        ARGUMENTS if place == path.anchors() => Some(PLACES[2]),
+        ARGUMENTS => Some(PLACES[place.min(1) as usize]),
+        RESULT => Some(PLACES[3 + place.min(1) as usize]),
+        _ => None,
+    }
+}
 
 pub fn outcome(expected: &Expected, short: bool) -> Family {
     match (expected.refusal, short) {
@@ -60,6 +93,7 @@ pub fn outcome(expected: &Expected, short: bool) -> Family {
         (ARGUMENTS, false) => REFUSES_5,
         (ARGUMENTS, true) => REFUSES_5_SHORT,
         (REFERENCE, _) => REFUSES_6,
+        (CAPACITY, _) => REFUSES_10,
         (RESULT, false) => REFUSES_9,
         (RESULT, true) => REFUSES_9_SHORT,
         (OUTPUT, _) => REFUSES_8,

@@ -43,6 +43,15 @@ impl Room {
     }
 }
 
+/// Of two buffers that are not both long enough: the index of the short one, 2 for both.
+pub fn which_short(rooms: &[Room; 2]) -> usize {
+    match rooms.each_ref().map(Room::is_short) {
+        [true, false] => 0,
+        [false, true] => 1,
+        _ => 2,
+    }
+}
+
 impl Display for Room {
     fn fmt(&self, f: &mut Formatter) -> Result {
         write!(f, "room {} of {}", self.lent, self.need)

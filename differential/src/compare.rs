@@ -1,9 +1,10 @@
 //! What a call must answer and leave in every lent bit, against what it did.
 
-use crate::case::Case;
+use crate::case::{Case, Room};
 use crate::guard::{Lent, Wrong};
 use crate::lents::Lents;
-use crate::refusal::{in_limit, ACCEPTED, ARGUMENTS, OUTPUT, RESULT};
+use crate::paths::Path;
+use crate::refusal::{in_limit, ACCEPTED, ARGUMENTS, LISTS, OUTPUT, RESULT};
 use std::fmt::{Display, Formatter, Result};
 
 /// What the original answers.
@@ -41,6 +42,47 @@ impl Expected {
             answer: [0, count, 0, 0],
             written: lists.into_iter().map(bits).collect(),
         }
+    }
+
+    /// Document 01's refusals 7 and 5 of a path, and of the arguments beside it, at the anchor count.
+    pub fn refusal_of(path: &Path, most_anchors: usize, arguments: &[f64]) -> Option<Expected> {
+        if !path.is_readable(most_anchors) {
+            return Some(Expected::refused(LISTS));
+        }
+        let place = path.first_outside().or_else(|| {
+            let good = arguments.iter().all(|&x| in_limit(x));
+            (!good).then_some(path.anchors() as usize)
+        });
+        place.map(|place| Expected::refused_at(place, ARGUMENTS))
+    }
+
+    /// Document 01's refusals 9 and 8 of a path that goes to lent buffers, else that path.
+    pub fn made(made: &Path, rooms: &[Room; 2]) -> Expected {
+        if let Some(place) = made.first_outside() {
+            return Expected::refused_at(place, RESULT);
+        }
+        if rooms.iter().any(Room::is_short) {
+            return Expected::refused(OUTPUT);
+        }
+        Expected::path(made)
+    }
+
+    /// An accepted call, which leaves this path in front of its lists.
+    pub fn path(made: &Path) -> Expected {
+        let words = made.shapes.iter().copied().map(u64::from);
+        let numbers = made.numbers.iter().map(|x| x.to_bits());
+        Expected {
+            refusal: ACCEPTED,
+            answer: [0, made.anchors(), made.shapes.len() as u64, 0],
+            written: vec![words.collect(), numbers.collect()],
+        }
+    }
+
+    /// The same of a call that leaves the words as they are.
+    pub fn numbers(made: &Path) -> Expected {
+        let mut expected = Expected::path(made);
+        expected.written.remove(0);
+        expected
     }
 
     /// At place 0, as every refusal of a call without a path.

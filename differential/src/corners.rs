@@ -1,36 +1,23 @@
 //! The corners of a path.
 
 use crate::branches;
-use crate::call::{
-    outcome, ACCEPTS, REFUSES_5, REFUSES_5_SHORT, REFUSES_7, REFUSES_7_SHORT, REFUSES_8, REFUSES_9,
-    REFUSES_9_SHORT,
-};
-use crate::case::Room;
+use crate::call::{outcome, OUTCOMES};
+use crate::case::{which_short, Room};
 use crate::compare::{mismatch, Expected};
+use crate::damage::{self, damage};
 use crate::family::{self, Family};
 use crate::ffi;
-use crate::guard::{Entry, Lent};
+use crate::guard::Lent;
+use crate::kept::first_place;
 use crate::lents::Lents;
 use crate::original::bezier::{path_corners, Corner};
 use crate::original::counted;
 use crate::outlines;
 use crate::parameters::ROOM;
-use crate::paths::{Path, CLOSED};
+use crate::paths::Path;
 use crate::random::Random;
-use crate::refusal::{in_limit, ACCEPTED, ARGUMENTS, LISTS, MOST_ANCHORS, OUTPUT, RESULT};
+use crate::refusal::{in_limit, ACCEPTED, ARGUMENTS, MOST_ANCHORS, OUTPUT, RESULT};
 use crate::report::Tally;
-use crate::writings::{damage, damages};
-
-const OUTCOMES: [Family; 8] = [
-    ACCEPTS,
-    REFUSES_7,
-    REFUSES_7_SHORT,
-    REFUSES_5,
-    REFUSES_5_SHORT,
-    REFUSES_9,
-    REFUSES_9_SHORT,
-    REFUSES_8,
-];
 
 /// Where a path is refused, by which number of a corner, and by which buffer.
 const PLACES: [Family; 7] = [
@@ -55,7 +42,8 @@ pub fn run(cases: u64, random: &mut Random) -> Tally {
         PLACES.to_vec(),
         SHARES.to_vec(),
         corner_branches(),
-        damages(),
+        damage::families(),
+        vec![damage::OUTSIDE],
         outlines::families(),
         ROOM.families(),
     ];
@@ -84,11 +72,15 @@ fn compare(random: &mut Random, tally: &mut Tally) {
     let count = found.as_ref().map_or(4, Listed::count);
     let rooms = [count, NINE * count].map(|need| Room::draw(need, random, &mut families));
     let expected = expected(found, &rooms);
-    let short = rooms.each_ref().map(Room::is_short);
-    families.push(outcome(&expected, short.contains(&true)));
-    families.extend(place(&expected, short));
+    let short = rooms.iter().any(Room::is_short);
+    families.push(outcome(&expected, short));
+    families.extend(place(&expected, &rooms));
     tally.count(1, &families);
-    let mut lents = lents(&path, &rooms, random);
+    let given = vec![
+        Lent::holding_words(&path.shapes, random),
+        Lent::holding(&path.numbers, random),
+    ];
+    let mut lents = Lents::with_rooms(given, &rooms, random);
     let refusal = library(&mut lents);
     if let Some(wrong) = mismatch(&expected, refusal, &lents) {
         tally.fail(path.size(), || {
@@ -113,19 +105,13 @@ impl Listed {
 
 /// Document 01's refusal, 7 or 5, or the corners.
 fn found(path: &Path) -> Result<Listed, Expected> {
-    if !path.is_readable(MOST_ANCHORS) {
-        return Err(Expected::refused(LISTS));
-    }
-    if let Some(place) = path.first_outside() {
-        return Err(Expected::refused_at(place, ARGUMENTS));
+    if let Some(refused) = Expected::refusal_of(path, MOST_ANCHORS, &[]) {
+        return Err(refused);
     }
     let corners = path_corners(&path.original());
     let place = |c: &Corner| {
         let (s, i) = c.at_ref;
-        let before = path.shapes[..s]
-            .iter()
-            .map(|word| u64::from(word & !CLOSED));
-        before.sum::<u64>() + i as u64
+        (first_place(path, s) + i) as u64
     };
     let numbers = |c: &Corner| {
         let Corner { at, u, v, .. } = *c;
@@ -159,10 +145,7 @@ fn expected(found: Result<Listed, Expected>, rooms: &[Room; 2]) -> Expected {
 }
 
 fn note_corners(path: &Path, found: &Listed, families: &mut Vec<Family>) {
-    counted::path_corners(&path.build(
-        |[p, h_in, h_out]| counted::Anchor { p, h_in, h_out },
-        |anchors, closed| counted::SubPath { anchors, closed },
-    ));
+    counted::path_corners(&path.counted());
     families.extend(branches::take());
     families.push(match found.count() {
         0 => SHARES[0],
@@ -180,31 +163,13 @@ fn note_corners(path: &Path, found: &Listed, families: &mut Vec<Family>) {
     }
 }
 
-fn place(expected: &Expected, short: [bool; 2]) -> Option<Family> {
+fn place(expected: &Expected, rooms: &[Room; 2]) -> Option<Family> {
     let place = match expected.refusal {
         ARGUMENTS => expected.answer[0].min(1) as usize,
-        OUTPUT => match short {
-            [true, false] => 4,
-            [false, true] => 5,
-            _ => 6,
-        },
+        OUTPUT => 4 + which_short(rooms),
         _ => return None,
     };
     Some(PLACES[place])
-}
-
-fn lents(path: &Path, [places, numbers]: &[Room; 2], random: &mut Random) -> Lents {
-    Lents {
-        given: vec![
-            Lent::holding_words(&path.shapes, random),
-            Lent::holding(&path.numbers, random),
-        ],
-        results: vec![
-            Lent::foreign(Entry::Word, places.lent, random),
-            Lent::foreign(Entry::Number, numbers.lent, random),
-        ],
-        answer: Lent::for_answer(random),
-    }
 }
 
 fn library(lents: &mut Lents) -> u32 {

@@ -1,43 +1,24 @@
 //! The corner cut of a drawing.
 
 use crate::branches;
-use crate::call::{
-    outcome, ACCEPTS, REFUSES_5, REFUSES_5_SHORT, REFUSES_7, REFUSES_7_SHORT, REFUSES_8, REFUSES_9,
-    REFUSES_9_SHORT,
-};
-use crate::case::Room;
+use crate::call::{outcome, place, OUTCOMES, PLACES};
+use crate::case::{which_short, Room};
 use crate::compare::{mismatch, Expected};
-use crate::drawings::{self, Drawing, KINDS};
+use crate::drawings::{self, Drawing};
 use crate::family::Family;
 use crate::ffi;
-use crate::guard::{Entry, Lent};
+use crate::guard::Lent;
 use crate::lents::Lents;
 use crate::original::counted;
 use crate::parameters::ROOM;
 use crate::paths::{Path, SIX};
 use crate::random::Random;
-use crate::refusal::{ACCEPTED, ARGUMENTS, LISTS, MOST_ANCHORS, MOST_SUBPATHS, OUTPUT, RESULT};
+use crate::refusal::{ARGUMENTS, LISTS, MOST_ANCHORS, MOST_SUBPATHS, OUTPUT};
 use crate::report::Tally;
 use crate::samples;
 
-const OUTCOMES: [Family; 8] = [
-    ACCEPTS,
-    REFUSES_7,
-    REFUSES_7_SHORT,
-    REFUSES_5,
-    REFUSES_5_SHORT,
-    REFUSES_9,
-    REFUSES_9_SHORT,
-    REFUSES_8,
-];
-
-/// Where a drawing is refused, and by which buffer.
-const PLACES: [Family; 8] = [
-    ("refused", "5 at anchor 0"),
-    ("refused", "5 at a later one"),
-    ("refused", "5 at the count"),
-    ("refused", "9 at anchor 0"),
-    ("refused", "9 at a later one"),
+/// Which buffer a cut is refused for.
+const SHORT: [Family; 3] = [
     ("refused", "8 for the words"),
     ("refused", "8 for the numbers"),
     ("refused", "8 for both"),
@@ -47,6 +28,7 @@ pub fn run(cases: u64, random: &mut Random) -> Tally {
     let families = [
         OUTCOMES.to_vec(),
         PLACES.to_vec(),
+        SHORT.to_vec(),
         branches::FAMILIES.to_vec(),
         samples::families(),
         drawings::families(),
@@ -68,10 +50,18 @@ fn compare(mut drawing: Drawing, tally: &mut Tally, random: &mut Random) {
         note_branches(&mut drawing);
     }
     let rooms = rooms(&mut drawing, &cut, random);
-    let expected = expected(cut, &rooms);
+    let expected = match cut {
+        Ok(cut) => Expected::made(&cut, &rooms),
+        Err(refused) => refused,
+    };
     note_outcome(&mut drawing, &expected, &rooms);
     tally.count(1, &drawing.families);
-    let mut lents = lents(&drawing, &rooms, random);
+    let given = vec![
+        Lent::holding_words(&drawing.path.shapes, random),
+        Lent::holding(&drawing.path.numbers, random),
+        Lent::holding(&drawing.radii, random),
+    ];
+    let mut lents = Lents::with_rooms(given, &rooms, random);
     let refusal = library(&drawing, &mut lents);
     if let Some(wrong) = mismatch(&expected, refusal, &lents) {
         tally.fail(drawing.size(), || {
@@ -86,35 +76,10 @@ fn cut(drawing: &Drawing) -> Result<Path, Expected> {
     if !drawing.is_readable() {
         return Err(Expected::refused(LISTS));
     }
-    if let Some(place) = drawing.first_outside() {
+    if let Some(place) = drawing.first_wrong() {
         return Err(Expected::refused_at(place, ARGUMENTS));
     }
-    if drawing.kind as usize >= KINDS.len() {
-        let anchors = drawing.path.anchors() as usize;
-        return Err(Expected::refused_at(anchors, ARGUMENTS));
-    }
     Ok(Path::of(&drawing.cut()))
-}
-
-/// Then 9 and 8.
-fn expected(cut: Result<Path, Expected>, rooms: &[Room; 2]) -> Expected {
-    let cut = match cut {
-        Ok(cut) => cut,
-        Err(refused) => return refused,
-    };
-    if let Some(place) = cut.first_outside() {
-        return Expected::refused_at(place, RESULT);
-    }
-    if rooms.iter().any(Room::is_short) {
-        return Expected::refused(OUTPUT);
-    }
-    let words = cut.shapes.iter().copied().map(u64::from);
-    let numbers = cut.numbers.iter().map(|x| x.to_bits());
-    Expected {
-        refusal: ACCEPTED,
-        answer: [0, cut.anchors(), cut.shapes.len() as u64, 0],
-        written: vec![words.collect(), numbers.collect()],
-    }
 }
 
 /// For the words and for the numbers.
@@ -131,51 +96,25 @@ fn rooms(drawing: &mut Drawing, cut: &Result<Path, Expected>, random: &mut Rando
 }
 
 fn note_branches(drawing: &mut Drawing) {
-    let path = drawing.path.build(
-        |[p, h_in, h_out]| counted::Anchor { p, h_in, h_out },
-        |anchors, closed| counted::SubPath { anchors, closed },
-    );
     let kinds = [
         counted::CornerKind::Round,
         counted::CornerKind::Inverted,
         counted::CornerKind::Chamfer,
     ];
-    counted::cut_corners(&path, drawing.radius(), kinds[drawing.kind as usize]);
+    counted::cut_corners(
+        &drawing.path.counted(),
+        drawing.radius(),
+        kinds[drawing.kind as usize],
+    );
     drawing.families.extend(branches::take());
 }
 
 fn note_outcome(drawing: &mut Drawing, expected: &Expected, rooms: &[Room; 2]) {
-    let short = rooms.each_ref().map(Room::is_short);
-    drawing
-        .families
-        .push(outcome(expected, short.contains(&true)));
-    let place = expected.answer[0];
-    let place = match expected.refusal {
-        ARGUMENTS if place == drawing.path.anchors() => 2,
-        ARGUMENTS => place.min(1) as usize,
-        RESULT => 3 + place.min(1) as usize,
-        OUTPUT => match short {
-            [true, false] => 5,
-            [false, true] => 6,
-            _ => 7,
-        },
-        _ => return,
-    };
-    drawing.families.push(PLACES[place]);
-}
-
-fn lents(drawing: &Drawing, [words, numbers]: &[Room; 2], random: &mut Random) -> Lents {
-    Lents {
-        given: vec![
-            Lent::holding_words(&drawing.path.shapes, random),
-            Lent::holding(&drawing.path.numbers, random),
-            Lent::holding(&drawing.radii, random),
-        ],
-        results: vec![
-            Lent::foreign(Entry::Word, words.lent, random),
-            Lent::foreign(Entry::Number, numbers.lent, random),
-        ],
-        answer: Lent::for_answer(random),
+    let short = rooms.iter().any(Room::is_short);
+    drawing.families.push(outcome(expected, short));
+    drawing.families.extend(place(&drawing.path, expected));
+    if expected.refusal == OUTPUT {
+        drawing.families.push(SHORT[which_short(rooms)]);
     }
 }
 

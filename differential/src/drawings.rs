@@ -19,7 +19,7 @@ pub struct Drawing {
 }
 
 /// The original's, by the number that the library is given.
-pub const KINDS: [CornerKind; 3] = [CornerKind::Round, CornerKind::Inverted, CornerKind::Chamfer];
+const KINDS: [CornerKind; 3] = [CornerKind::Round, CornerKind::Inverted, CornerKind::Chamfer];
 
 pub fn families() -> Vec<Family> {
     let drawing = [RADII.families(), KIND.families(), NO_KIND.families()].concat();
@@ -76,6 +76,14 @@ impl Drawing {
             .into_iter()
             .flatten()
             .min()
+    }
+
+    /// Where document 01 refuses a readable drawing 5: at the first such place, or for its kind at the
+    /// anchor count.
+    pub fn first_wrong(&self) -> Option<usize> {
+        let no_kind = self.kind as usize >= KINDS.len();
+        let count = self.path.anchors() as usize;
+        self.first_outside().or(no_kind.then_some(count))
     }
 
     /// The radius at an anchor of a readable drawing.

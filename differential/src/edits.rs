@@ -1,7 +1,10 @@
 //! The edits of a path in place: an anchor put into a segment, a drawing's subpath turned round, and anchors deleted.
 
+use crate::call::{
+    outcome, ACCEPTS, REFUSES_10, REFUSES_5, REFUSES_6, REFUSES_7, REFUSES_8, REFUSES_9,
+};
 use crate::compare::{mismatch, Expected};
-use crate::damage::{far_more, lengthen, one_more, put_outside, shorten, wrap};
+use crate::damage::{lengthen, put_outside, shorten, Change, MORE, WHOLE};
 use crate::drawings::{self, Drawing};
 use crate::family::{self, Family, Group};
 use crate::ffi;
@@ -12,20 +15,12 @@ use crate::outlines;
 use crate::parameters::PARAMETER;
 use crate::paths::{Path, SIX};
 use crate::random::Random;
-use crate::refusal::{
-    in_limit, ACCEPTED, ARGUMENTS, CAPACITY, LISTS, MOST_ANCHORS, OUTPUT, REFERENCE, RESULT,
-};
+use crate::refusal::{ARGUMENTS, CAPACITY, LISTS, MOST_ANCHORS, OUTPUT, REFERENCE, RESULT};
 use crate::report::Tally;
 use crate::values::outside;
 
 const OUTCOMES: [Family; 7] = [
-    ("outcome", "accepted"),
-    ("outcome", "refused 7"),
-    ("outcome", "refused 5"),
-    ("outcome", "refused 6"),
-    ("outcome", "refused 10"),
-    ("outcome", "refused 9"),
-    ("outcome", "refused 8"),
+    ACCEPTS, REFUSES_7, REFUSES_5, REFUSES_6, REFUSES_10, REFUSES_9, REFUSES_8,
 ];
 
 /// What a split is of, where it is accepted, and where it is refused 9.
@@ -130,8 +125,7 @@ static REFERENCES: Group<fn(&Path, &mut Random) -> (usize, usize)> = Group {
             (s, random.below(8) as usize)
         }),
         ("far off", |_, random| {
-            let far = |random: &mut Random| (random.bits() >> random.below(64)) as usize;
-            (far(random), far(random))
+            (random.whole() as usize, random.whole() as usize)
         }),
     ],
 };
@@ -147,8 +141,6 @@ fn segments(path: &Path) -> impl Iterator<Item = (usize, usize)> {
         starts
     })
 }
-
-type Change = fn(&mut Path, &mut Random);
 
 /// Numbers past those that the words call for: an anchor needs six.
 static ROOM: Group<Change> = Group {
@@ -175,15 +167,9 @@ static DAMAGE: Group<Change> = Group {
         ("numbers short", |path, random| {
             shorten(&mut path.numbers, random)
         }),
-        ("an anchor more", |path, random| {
-            one_more(&mut path.shapes, random)
-        }),
-        ("far more anchors", |path, random| {
-            far_more(&mut path.shapes, random)
-        }),
-        ("counts that wrap", |path, random| {
-            wrap(&mut path.shapes, random)
-        }),
+        MORE[0],
+        MORE[1],
+        MORE[2],
         ("a number outside", |path, random| {
             put_outside(&mut path.numbers, random)
         }),
@@ -192,7 +178,7 @@ static DAMAGE: Group<Change> = Group {
 
 fn compare(mut call: Split, tally: &mut Tally, random: &mut Random) {
     let expected = expected(&mut call);
-    call.families.push(outcome(expected.refusal));
+    call.families.push(outcome(&expected, false));
     tally.count(1, &call.families);
     // In place: the lists are given and written.
     let mut lents = Lents {
@@ -231,19 +217,13 @@ fn compare(mut call: Split, tally: &mut Tally, random: &mut Random) {
 /// Document 01's refusals in their order, 7, 5, 6, 10, 9, 8; else what the original leaves.
 fn expected(call: &mut Split) -> Expected {
     let path = &call.path;
-    if !path.is_readable(MOST_ANCHORS) {
-        return Expected::refused(LISTS);
-    }
-    let anchors = path.anchors() as usize;
-    if let Some(place) = path.first_outside() {
-        return Expected::refused_at(place, ARGUMENTS);
-    }
-    if !in_limit(call.t) {
-        return Expected::refused_at(anchors, ARGUMENTS);
+    if let Some(refused) = Expected::refusal_of(path, MOST_ANCHORS, &[call.t]) {
+        return refused;
     }
     if !segments(path).any(|segment| segment == (call.s, call.a)) {
         return Expected::refused(REFERENCE);
     }
+    let anchors = path.anchors() as usize;
     if anchors == MOST_ANCHORS {
         return Expected::refused(CAPACITY);
     }
@@ -271,26 +251,7 @@ fn expected(call: &mut Split) -> Expected {
     if anchors + 1 == MOST_ANCHORS {
         call.families.push(SPLITS[4]);
     }
-    left(&made)
-}
-
-/// An accepted call, which leaves this path in front of its lists.
-fn left(made: &Path) -> Expected {
-    let words = made.shapes.iter().copied().map(u64::from);
-    let numbers = made.numbers.iter().map(|x| x.to_bits());
-    Expected {
-        refusal: ACCEPTED,
-        answer: [0, made.anchors(), made.shapes.len() as u64, 0],
-        written: vec![words.collect(), numbers.collect()],
-    }
-}
-
-fn outcome(refusal: u32) -> Family {
-    let at = [
-        ACCEPTED, LISTS, ARGUMENTS, REFERENCE, CAPACITY, RESULT, OUTPUT,
-    ];
-    let at = at.iter().position(|&known| known == refusal);
-    OUTCOMES[at.expect("a refusal that there is")]
+    Expected::path(&made)
 }
 
 /// What is turned round, where a call is accepted.
@@ -331,15 +292,13 @@ static SUBPATHS: Group<fn(&Drawing, &mut Random) -> usize> = Group {
         ("the one after the last", |drawing, _| {
             drawing.path.shapes.len()
         }),
-        ("far off", |_, random| {
-            (random.bits() >> random.below(64)) as usize
-        }),
+        ("far off", |_, random| random.whole() as usize),
     ],
 };
 
 fn compare_turned(mut drawing: Drawing, s: usize, tally: &mut Tally, random: &mut Random) {
     let expected = expected_turned(&mut drawing, s);
-    drawing.families.push(outcome(expected.refusal));
+    drawing.families.push(outcome(&expected, false));
     tally.count(1, &drawing.families);
     let mut lents = Lents {
         given: vec![
@@ -387,9 +346,7 @@ fn expected_turned(drawing: &mut Drawing, s: usize) -> Expected {
     if between && n > 0 {
         drawing.families.push(TURNS[4]);
     }
-    let mut expected = left(&Path::of(&original));
-    expected.written.remove(0);
-    expected
+    Expected::numbers(&Path::of(&original))
 }
 
 /// What goes, where a call is accepted.
@@ -529,15 +486,12 @@ fn put_pair(which: &mut Vec<u32>, pair: [u32; 2], random: &mut Random) {
 /// Numbers past those that the words call for.
 static BEYOND: Group<Change> = Group {
     name: "room",
-    ways: &[
-        ("exact", |_, _| {}),
-        ("longer", |path, random| lengthen(&mut path.numbers, random)),
-    ],
+    ways: WHOLE.ways,
 };
 
 fn compare_deleted(mut call: Delete, tally: &mut Tally, random: &mut Random) {
     let expected = expected_deleted(&mut call);
-    call.families.push(outcome(expected.refusal));
+    call.families.push(outcome(&expected, false));
     tally.count(1, &call.families);
     let mut lents = Lents {
         given: vec![Lent::holding_words(&call.which, random)],
@@ -586,7 +540,7 @@ fn expected_deleted(call: &mut Delete) -> Expected {
     let mut original = call.path.original();
     bezier::delete(&mut original, &named);
     note_deleted(&given, &named, &original, &mut call.families);
-    left(&Path::of(&original))
+    Expected::path(&Path::of(&original))
 }
 
 /// What went of a path, and what is left as short as may be.

@@ -188,7 +188,7 @@ fn copy<T>(to: &mut [T], from: &[u64], entry: impl Fn(u64) -> T) {
 }
 
 /// Any bits, a NaN's in half of the words: a copy must keep them, and arithmetic would not.
-fn foreign(random: &mut Random) -> u64 {
+pub fn foreign(random: &mut Random) -> u64 {
     if random.one_in(2) {
         nan(random).to_bits()
     } else {

@@ -2,7 +2,8 @@
 
 use crate::call::{outcome, ACCEPTS, REFUSES_5, REFUSES_7};
 use crate::compare::{mismatch, Expected};
-use crate::damage::{far_more, lengthen, one_more, put_outside, shorten, wrap};
+use crate::curves::is_straight;
+use crate::damage::{self, damage};
 use crate::family::{self, Family, Group};
 use crate::ffi;
 use crate::guard::{Entry, Lent};
@@ -12,9 +13,7 @@ use crate::original::geom::{Bounds, P};
 use crate::outlines;
 use crate::paths::Path;
 use crate::random::Random;
-use crate::refusal::{
-    in_limit, ACCEPTED, ARGUMENTS, LIMIT, LISTS, MOST_ANCHORS, MOST_CUT_ANCHORS, RESULT,
-};
+use crate::refusal::{in_limit, ACCEPTED, LIMIT, MOST_ANCHORS, MOST_CUT_ANCHORS, RESULT};
 use crate::report::Tally;
 use crate::values::{outside, NUMBERS};
 
@@ -26,38 +25,7 @@ struct Query {
     tol: f64,
 }
 
-type Damage = fn(&mut Path, &mut Random);
-
-static LISTS_LENT: Group<Damage> = Group {
-    name: "lists",
-    ways: &[
-        ("exact", |_, _| {}),
-        // What stands there breaks every rule, and is not read.
-        ("longer", |path, random| lengthen(&mut path.numbers, random)),
-    ],
-};
-
-static DAMAGED_LISTS: Group<Damage> = Group {
-    name: "lists",
-    ways: &[
-        ("a number short", |path, _| {
-            path.numbers.pop();
-        }),
-        ("short", |path, random| shorten(&mut path.numbers, random)),
-        ("an anchor more", |path, random| {
-            one_more(&mut path.shapes, random);
-        }),
-        ("far more anchors", |path, random| {
-            far_more(&mut path.shapes, random);
-        }),
-        ("counts that wrap", |path, random| {
-            wrap(&mut path.shapes, random);
-        }),
-    ],
-};
-
 const REPEATED: Family = ("anchors", "repeated");
-const OUTSIDE: Family = ("outside", "a number");
 const LOOSE_OUTSIDE: Family = ("outside", "a loose argument");
 
 type Place = fn(&BezPath, &mut Random) -> P;
@@ -144,8 +112,8 @@ static TOLERANCE: Group<Tolerance> = Group {
 };
 
 fn drawn_families() -> Vec<Family> {
-    let lists = [LISTS_LENT.families(), DAMAGED_LISTS.families()].concat();
-    [outlines::families(), lists, vec![REPEATED, OUTSIDE]].concat()
+    let more = vec![REPEATED, damage::OUTSIDE];
+    [outlines::families(), damage::families(), more].concat()
 }
 
 fn query_families() -> Vec<Family> {
@@ -164,16 +132,7 @@ impl Query {
         let q = POINT.draw(random, &mut families)(&path, random);
         let tol = TOLERANCE.draw(random, &mut families)(&path, q, random);
         let mut path = Path::of(&path);
-        let lists = if random.one_in(8) {
-            &DAMAGED_LISTS
-        } else {
-            &LISTS_LENT
-        };
-        lists.draw(random, &mut families)(&mut path, random);
-        if random.one_in(12) {
-            put_outside(&mut path.numbers, random);
-            families.push(OUTSIDE);
-        }
+        damage(&mut path, &mut families, random);
         let mut query = Query {
             families,
             path,
@@ -188,21 +147,9 @@ impl Query {
         query
     }
 
-    /// Document 01's refusal, 7 or 5, with its place; the loose arguments count at the anchor count.
-    fn refused(&self, most_anchors: usize, loose: &[f64]) -> Option<Expected> {
-        if !self.path.is_readable(most_anchors) {
-            return Some(Expected::refused(LISTS));
-        }
-        if let Some(place) = self.path.first_outside() {
-            return Some(Expected::refused_at(place, ARGUMENTS));
-        }
-        if !loose.iter().all(|&x| in_limit(x)) {
-            return Some(Expected::refused_at(
-                self.path.anchors() as usize,
-                ARGUMENTS,
-            ));
-        }
-        None
+    /// What is given beside the path.
+    fn loose(&self) -> [f64; 3] {
+        [self.q.x, self.q.y, self.tol]
     }
 
     fn lents(&self, results: usize, random: &mut Random) -> Lents {
@@ -258,27 +205,27 @@ pub fn hit_anchor(cases: u64, random: &mut Random) -> Tally {
     let mut tally = Tally::new("hit_anchor", hit_families(&[TIE, AT_TOL]));
     for _ in 0..cases {
         let mut query = Query::draw(MOST_ANCHORS, random);
-        let Query { q, tol, .. } = query;
-        let expected = query
-            .refused(MOST_ANCHORS, &[q.x, q.y, tol])
-            .unwrap_or_else(|| {
-                let path = query.path.original();
-                let hit = bezier::hit_anchor(&path, q, tol);
-                note_anchor(&path, q, tol, hit, &mut query.families);
-                let answer = hit.map_or([0; 4], |(s, k)| [0, k as u64, s as u64, 1]);
-                Expected {
-                    refusal: ACCEPTED,
-                    answer,
-                    written: Vec::new(),
-                }
-            });
+        let expected = Expected::refusal_of(&query.path, MOST_ANCHORS, &query.loose())
+            .unwrap_or_else(|| found_anchor(&mut query));
         let mut lents = query.lents(0, random);
+        let [x, y, tol] = query.loose();
         compare(&mut query, &expected, &mut lents, &mut tally, |lents| {
             let (shapes, anchors) = given(&mut lents.given);
-            ffi::hit_anchor(shapes, anchors, q.x, q.y, tol, lents.answer.answer())
+            ffi::hit_anchor(shapes, anchors, x, y, tol, lents.answer.answer())
         });
     }
     tally
+}
+
+fn found_anchor(query: &mut Query) -> Expected {
+    let (path, q, tol) = (query.path.original(), query.q, query.tol);
+    let hit = bezier::hit_anchor(&path, q, tol);
+    note_anchor(&path, q, tol, hit, &mut query.families);
+    Expected {
+        refusal: ACCEPTED,
+        answer: hit.map_or([0; 4], |(s, k)| [0, k as u64, s as u64, 1]),
+        written: Vec::new(),
+    }
 }
 
 /// Whether more than one anchor is at the least distance, and whether that is tol.
@@ -315,29 +262,30 @@ pub fn hit_segment(cases: u64, random: &mut Random) -> Tally {
     let mut tally = Tally::new("hit_segment", hit_families(&more));
     for _ in 0..cases {
         let mut query = Query::draw(MOST_ANCHORS, random);
-        let Query { q, tol, .. } = query;
-        let expected = query
-            .refused(MOST_ANCHORS, &[q.x, q.y, tol])
-            .unwrap_or_else(|| {
-                let path = query.path.original();
-                let hit = bezier::hit_segment(&path, q, tol);
-                note_segment(&path, hit, &mut query.families);
-                // The parameter cannot break the limit.
-                assert!(hit.is_none_or(|(_, _, t)| in_limit(t)));
-                Expected {
-                    refusal: ACCEPTED,
-                    answer: hit.map_or([0; 4], |(s, a, _)| [0, a as u64, s as u64, 1]),
-                    written: hit.map_or(Vec::new(), |(_, _, t)| vec![vec![t.to_bits()]]),
-                }
-            });
+        let expected = Expected::refusal_of(&query.path, MOST_ANCHORS, &query.loose())
+            .unwrap_or_else(|| found_segment(&mut query));
         let mut lents = query.lents(1, random);
+        let [x, y, tol] = query.loose();
         compare(&mut query, &expected, &mut lents, &mut tally, |lents| {
             let (shapes, anchors) = given(&mut lents.given);
             let [t] = lents.results[0].array();
-            ffi::hit_segment(shapes, anchors, q.x, q.y, tol, t, lents.answer.answer())
+            ffi::hit_segment(shapes, anchors, x, y, tol, t, lents.answer.answer())
         });
     }
     tally
+}
+
+fn found_segment(query: &mut Query) -> Expected {
+    let path = query.path.original();
+    let hit = bezier::hit_segment(&path, query.q, query.tol);
+    note_segment(&path, hit, &mut query.families);
+    // The parameter cannot break the limit.
+    assert!(hit.is_none_or(|(_, _, t)| in_limit(t)));
+    Expected {
+        refusal: ACCEPTED,
+        answer: hit.map_or([0; 4], |(s, a, _)| [0, a as u64, s as u64, 1]),
+        written: hit.map_or(Vec::new(), |(_, _, t)| vec![vec![t.to_bits()]]),
+    }
 }
 
 fn note_segment(path: &BezPath, hit: Option<(usize, usize, f64)>, families: &mut Vec<Family>) {
@@ -349,11 +297,7 @@ fn note_segment(path: &BezPath, hit: Option<(usize, usize, f64)>, families: &mut
     let sp = &path[s];
     let b = (a + 1) % sp.anchors.len();
     let c = sp.cubic(a, b);
-    families.push(if c[1] == c[0] && c[2] == c[3] {
-        LINE
-    } else {
-        CURVE
-    });
+    families.push(if is_straight(&c) { LINE } else { CURVE });
     if b == 0 {
         families.push(CLOSING);
     }
@@ -373,10 +317,11 @@ pub fn bounds(cases: u64, random: &mut Random) -> Tally {
         query.families.retain(|(group, name)| {
             !["q", "tol"].contains(group) && (*group, *name) != LOOSE_OUTSIDE
         });
-        let expected = query.refused(MOST_CUT_ANCHORS, &[]).unwrap_or_else(|| {
-            let box_of = bezier::bounds(&query.path.original());
-            boxed(&box_of, query.path.anchors(), &mut query.families)
-        });
+        let expected =
+            Expected::refusal_of(&query.path, MOST_CUT_ANCHORS, &[]).unwrap_or_else(|| {
+                let box_of = bezier::bounds(&query.path.original());
+                boxed(&box_of, query.path.anchors(), &mut query.families)
+            });
         let mut lents = query.lents(4, random);
         compare(&mut query, &expected, &mut lents, &mut tally, |lents| {
             let (shapes, anchors) = given(&mut lents.given);

@@ -2,6 +2,7 @@
 
 use crate::case::Room;
 use crate::compare::{mismatch, Expected};
+use crate::damage::shorten;
 use crate::drawings::Drawing;
 use crate::family::{Family, Group};
 use crate::ffi;
@@ -183,9 +184,7 @@ pub static DAMAGES: Group<Damage> = Group {
             let at = random.below(job.len() as u64) as usize;
             job[at] ^= 1 << random.below(8);
         }),
-        ("cut short", |job, random| {
-            job.truncate(random.below(job.len() as u64 + 1) as usize);
-        }),
+        ("cut short", shorten),
         ("bytes more", |job, random| {
             for _ in 0..1 + random.below(9) {
                 job.push(random.bits() as u8);

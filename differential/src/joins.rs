@@ -6,16 +6,14 @@ use crate::compare::{mismatch, Expected};
 use crate::damage::{lengthen, put_outside, shorten};
 use crate::family::{self, Family, Group};
 use crate::ffi;
-use crate::guard::{Entry, Lent};
+use crate::guard::Lent;
 use crate::lents::Lents;
 use crate::original::bezier::{self, Anchor, SubPath};
 use crate::original::geom::P;
 use crate::parameters::ROOM;
 use crate::paths::{size, Path, CLOSED, SIX};
 use crate::random::Random;
-use crate::refusal::{
-    ACCEPTED, ARGUMENTS, CAPACITY, LIMIT, LISTS, MOST_ANCHORS, OUTPUT, REFERENCE, RESULT,
-};
+use crate::refusal::{ARGUMENTS, CAPACITY, LIMIT, LISTS, MOST_ANCHORS, OUTPUT, REFERENCE, RESULT};
 use crate::report::Tally;
 
 const OUTCOMES: [Family; 13] = [
@@ -267,7 +265,7 @@ static DAMAGED: Group<Change> = Group {
         }),
         ("a drawn anchor more", |call, _| call.drawn.count += 1),
         ("far more drawn", |call, random| {
-            call.drawn.count |= (random.bits() >> random.below(64)) as usize
+            call.drawn.count |= random.whole() as usize
         }),
         // Six times as many wraps to a count that the list has the numbers for.
         ("drawn that wrap", |call, _| call.drawn.count |= 1 << 63),
@@ -289,24 +287,19 @@ fn compare(mut call: Join, tally: &mut Tally, random: &mut Random) {
     let rooms = needs.map(|need| Room::draw(need, random, &mut call.families));
     let expected = expected(&mut call, made, &rooms);
     tally.count(1, &call.families);
-    let [words, numbers] = &rooms;
-    let mut lents = Lents {
-        given: vec![
-            Lent::holding(&call.drawn.numbers, random),
-            Lent::holding(&call.target.numbers, random),
-        ],
-        results: vec![
-            Lent::foreign(Entry::Word, words.lent, random),
-            Lent::foreign(Entry::Number, numbers.lent, random),
-        ],
-        answer: Lent::for_answer(random),
-    };
+    let given = vec![
+        Lent::holding(&call.drawn.numbers, random),
+        Lent::holding(&call.target.numbers, random),
+    ];
+    let mut lents = Lents::with_rooms(given, &rooms, random);
     let ([drawn, target], [to_shapes, to]) = (&mut lents.given[..], &mut lents.results[..]) else {
         unreachable!("two lists are given, and two buffers lent")
     };
     let refusal = ffi::join(
-        (drawn.numbers(), call.drawn.count),
-        (target.numbers(), call.word()),
+        drawn.numbers(),
+        call.drawn.count,
+        target.numbers(),
+        call.word(),
         call.at_start,
         to_shapes.words(),
         to.numbers(),
@@ -314,6 +307,7 @@ fn compare(mut call: Join, tally: &mut Tally, random: &mut Random) {
     );
     if let Some(wrong) = mismatch(&expected, refusal, &lents) {
         tally.fail(call.size(), || {
+            let [words, numbers] = &rooms;
             format!(
                 "    {}\n{}\n{}\n    count {}, word {:#x}, at start {:#x}, {words}, {numbers}\n    {wrong}",
                 family::list(&call.families),
@@ -383,14 +377,7 @@ fn expected(
         return Expected::refused(OUTPUT);
     }
     note(call, &made);
-    Expected {
-        refusal: ACCEPTED,
-        answer: [0, made.anchors(), 1, 0],
-        written: vec![
-            made.shapes.iter().copied().map(u64::from).collect(),
-            made.numbers.iter().map(|x| x.to_bits()).collect(),
-        ],
-    }
+    Expected::path(&made)
 }
 
 /// What an accepted call joined.

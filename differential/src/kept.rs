@@ -2,10 +2,10 @@
 
 use crate::caches::{Cache, TWELVE};
 use crate::compare::Expected;
-use crate::drawings::{Drawing, KINDS};
+use crate::drawings::Drawing;
 use crate::family;
 use crate::original::bezier;
-use crate::paths::{Path, CLOSED, SIX};
+use crate::paths::{count, Path, CLOSED, SIX};
 use crate::refusal::{
     in_limit, ACCEPTED, ARGUMENTS, CAPACITY, LISTS, MOST_ANCHORS, OUTPUT, REFERENCE, RESULT,
 };
@@ -139,8 +139,7 @@ impl Edit {
 
 /// The place of the first anchor of subpath `s` of a readable path.
 pub fn first_place(path: &Path, s: usize) -> usize {
-    let before = path.shapes[..s].iter().map(|word| word & !CLOSED);
-    before.sum::<u32>() as usize
+    count(&path.shapes[..s]) as usize
 }
 
 impl Kept {
@@ -152,6 +151,20 @@ impl Kept {
             && places <= self.flags.len() as u64
     }
 
+    /// The same lists, of no family.
+    pub fn copy(&self) -> Kept {
+        Kept {
+            drawing: Drawing {
+                families: Vec::new(),
+                path: self.drawing.path.clone(),
+                radii: self.drawing.radii.clone(),
+                kind: self.drawing.kind,
+            },
+            numbers: self.numbers.clone(),
+            flags: self.flags.clone(),
+        }
+    }
+
     /// Document 01's refusals in their order, 7, 5, 6, 10, 9, 8; else every list, with the places that
     /// are near recut by the original, and all others as they were.
     pub fn expected(&self, edit: &Edit) -> Expected {
@@ -160,12 +173,9 @@ impl Kept {
             return Expected::refused(LISTS);
         }
         let n = drawing.path.anchors() as usize;
-        if let Some(place) = drawing.first_outside() {
-            return Expected::refused_at(place, ARGUMENTS);
-        }
         let loose = edit.numbers().iter().all(|&x| in_limit(x));
-        if drawing.kind as usize >= KINDS.len() || !loose {
-            return Expected::refused_at(n, ARGUMENTS);
+        if let Some(place) = drawing.first_wrong().or((!loose).then_some(n)) {
+            return Expected::refused_at(place, ARGUMENTS);
         }
         if !edit.is_known(&drawing.path) {
             return Expected::refused(REFERENCE);

@@ -66,7 +66,7 @@ pub static STEPS: Group<fn(&mut Random) -> usize> = Group {
         ("256", |_| MOST_STEPS),
         ("257", |_| MOST_STEPS + 1),
         ("above 257", |random| {
-            ((random.bits() >> random.below(64)) as usize).max(MOST_STEPS + 2)
+            (random.whole() as usize).max(MOST_STEPS + 2)
         }),
     ],
 };

@@ -2,6 +2,7 @@
 
 use crate::case::significant_bits;
 use crate::original::bezier::{Anchor, BezPath, SubPath};
+use crate::original::counted;
 use crate::original::geom::P;
 use crate::refusal::{in_limit, MOST_SUBPATHS};
 use std::fmt::{Display, Formatter, Result};
@@ -29,10 +30,9 @@ impl Path {
         }
     }
 
-    /// Anchors that the shape words call for, in a sum that cannot wrap.
+    /// Anchors that the shape words call for.
     pub fn anchors(&self) -> u64 {
-        let counts = self.shapes.iter().map(|&word| word & !CLOSED);
-        counts.map(u64::from).sum()
+        count(&self.shapes)
     }
 
     /// Whether it may be read: whether document 01 does not refuse its lists, 7.
@@ -62,6 +62,14 @@ impl Path {
         )
     }
 
+    /// A readable path as the original that counts its branches has it.
+    pub fn counted(&self) -> counted::BezPath {
+        self.build(
+            |[p, h_in, h_out]| counted::Anchor { p, h_in, h_out },
+            |anchors, closed| counted::SubPath { anchors, closed },
+        )
+    }
+
     /// A readable path, from what is made of an anchor's points and of a subpath's anchors.
     pub fn build<A, S>(&self, anchor: fn([P; 3]) -> A, subpath: fn(Vec<A>, bool) -> S) -> Vec<S> {
         let mut place = 0;
@@ -81,6 +89,11 @@ impl Path {
     pub fn size(&self) -> u64 {
         size(&self.numbers) + self.shapes.len() as u64
     }
+}
+
+/// Anchors that shape words call for, in a sum that cannot wrap.
+pub fn count(shapes: &[u32]) -> u64 {
+    shapes.iter().map(|&word| u64::from(word & !CLOSED)).sum()
 }
 
 pub fn size(numbers: &[f64]) -> u64 {

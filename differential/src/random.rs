@@ -20,6 +20,11 @@ impl Random {
         self.bits() % n
     }
 
+    /// A whole number of any length in bits.
+    pub fn whole(&mut self) -> u64 {
+        self.bits() >> self.below(64)
+    }
+
     pub fn one_in(&mut self, n: u64) -> bool {
         self.below(n) == 0
     }

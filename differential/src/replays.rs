@@ -2,7 +2,7 @@
 
 use crate::caches::{Cache, TWELVE};
 use crate::compare::{mismatch, Expected};
-use crate::drawings::{self, Drawing, KINDS};
+use crate::drawings::{self, Drawing};
 use crate::family::{Family, Group};
 use crate::ffi;
 use crate::guard::{Entry, Lent};
@@ -198,16 +198,7 @@ fn value(edit: &Edit, random: &mut Random) -> [f64; SIX] {
 }
 
 fn compare(mut replay: Replay, tally: &mut Tally, random: &mut Random) {
-    let before = Kept {
-        drawing: Drawing {
-            path: replay.kept.drawing.path.clone(),
-            radii: replay.kept.drawing.radii.clone(),
-            kind: replay.kept.drawing.kind,
-            families: Vec::new(),
-        },
-        numbers: replay.kept.numbers.clone(),
-        flags: replay.kept.flags.clone(),
-    };
+    let before = replay.kept.copy();
     let expected = expected(&mut replay);
     tally.count(1, &replay.kept.drawing.families);
     let mut lents = Lents {
@@ -237,7 +228,8 @@ fn compare(mut replay: Replay, tally: &mut Tally, random: &mut Random) {
         before.drawing.kind,
         numbers.numbers(),
         flags.words(),
-        (codes.words(), values.numbers()),
+        codes.words(),
+        values.numbers(),
         answers.words(),
         lents.answer.answer(),
     );
@@ -315,12 +307,10 @@ fn refused(replay: &Replay) -> (u32, usize) {
     if !fit || !kept.is_readable() {
         return (LISTS, 0);
     }
-    if let Some(place) = kept.drawing.first_outside() {
-        return (ARGUMENTS, place);
-    }
     let known = (0..calls).all(|j| replay.edit(j).is_some());
-    if !known || kept.drawing.kind as usize >= KINDS.len() {
-        return (ARGUMENTS, kept.drawing.path.anchors() as usize);
+    let count = kept.drawing.path.anchors() as usize;
+    if let Some(place) = kept.drawing.first_wrong().or((!known).then_some(count)) {
+        return (ARGUMENTS, place);
     }
     match Cache::of(&kept.drawing).first_outside() {
         Some(place) => (RESULT, place),

@@ -3,10 +3,11 @@
 
 use crate::caches::{Cache, CUT, TWELVE};
 use crate::compare::{mismatch, Expected};
+use crate::damage::shorten;
 use crate::drawings::{self, Drawing};
 use crate::family::{Family, Group};
 use crate::ffi::{self, Answer};
-use crate::guard::Lent;
+use crate::guard::{self, Lent};
 use crate::kept::{first_place, Edit, Kept};
 use crate::lents::Lents;
 use crate::original::bezier;
@@ -17,7 +18,7 @@ use crate::refusal::{
     ACCEPTED, ARGUMENTS, CAPACITY, LISTS, MOST_ANCHORS, OUTPUT, REFERENCE, RESULT,
 };
 use crate::report::Tally;
-use crate::values::{nan, outside, uniform};
+use crate::values::{outside, uniform};
 
 const OUTCOMES: [Family; 17] = [
     ("move", "accepted"),
@@ -90,8 +91,7 @@ static REFERENCES: Group<fn(&Path, &mut Random) -> (usize, usize)> = Group {
             (s, random.below(9) as usize)
         }),
         ("far off", |_, random| {
-            let far = |random: &mut Random| (random.bits() >> random.below(64)) as usize;
-            (far(random), far(random))
+            (random.whole() as usize, random.whole() as usize)
         }),
     ],
 };
@@ -216,10 +216,10 @@ fn draw(random: &mut Random) -> (Kept, Edit) {
         flags.push(random.bits() as u32);
     }
     if random.one_in(16) {
-        numbers.truncate(random.below(numbers.len() as u64 + 1) as usize);
+        shorten(&mut numbers, random);
     }
     if random.one_in(16) {
-        flags.truncate(random.below(flags.len() as u64 + 1) as usize);
+        shorten(&mut flags, random);
     }
     let kept = Kept {
         drawing,
@@ -254,11 +254,7 @@ fn set_back(drawing: &mut Drawing, edit: &mut Edit, random: &mut Random) {
 }
 
 fn foreign(random: &mut Random) -> f64 {
-    if random.one_in(2) {
-        nan(random)
-    } else {
-        f64::from_bits(random.bits())
-    }
+    f64::from_bits(guard::foreign(random))
 }
 
 fn compare(kept: &Kept, edit: &Edit, expected: &Expected, tally: &mut Tally, random: &mut Random) {
@@ -430,16 +426,7 @@ fn lengthen(kept: &mut Kept, random: &mut Random) {
 
 /// The same with one list shorter.
 fn shortened(kept: &Kept, random: &mut Random) -> Option<Kept> {
-    let mut lent = Kept {
-        drawing: Drawing {
-            path: kept.drawing.path.clone(),
-            radii: kept.drawing.radii.clone(),
-            kind: kept.drawing.kind,
-            families: Vec::new(),
-        },
-        numbers: kept.numbers.clone(),
-        flags: kept.flags.clone(),
-    };
+    let mut lent = kept.copy();
     let places = kept.drawing.path.anchors() as usize;
     // Often just what the drawing needs, so that a split is refused 8.
     let length = |need: usize, random: &mut Random| match random.below(3) {

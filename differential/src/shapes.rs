@@ -3,18 +3,17 @@
 //! would fail for having no such family.
 
 use crate::call::{outcome, ACCEPTS, REFUSES_5, REFUSES_5_SHORT, REFUSES_8};
-use crate::case::{significant_bits, Room};
+use crate::case::{significant_bits, which_short, Room};
 use crate::compare::{mismatch, Expected};
 use crate::family::{self, Family, Group};
-use crate::ffi;
-use crate::guard::{Entry, Lent};
+use crate::ffi::{self, Answer};
 use crate::lents::Lents;
 use crate::original::bezier::{ellipse, line, rect, BezPath};
 use crate::original::geom::P;
 use crate::parameters::ROOM;
 use crate::paths::Path;
 use crate::random::Random;
-use crate::refusal::{in_limit, ACCEPTED, ARGUMENTS, LIMIT, OUTPUT, RESULT};
+use crate::refusal::{in_limit, ARGUMENTS, LIMIT, OUTPUT};
 use crate::report::Tally;
 use crate::values::{edge, exponent, integer, near, outside, uniform, Numbers};
 
@@ -23,61 +22,37 @@ pub struct Shape {
     name: &'static str,
     radius: bool,
     original: fn(P, P, f64) -> BezPath,
-    library: fn([f64; 4], f64, &mut Lents) -> u32,
+    library: Library,
 }
+
+type Library = fn([f64; 4], f64, &mut [u32], &mut [f64], &mut Answer) -> u32;
 
 pub const SHAPES: [Shape; 3] = [
     Shape {
         name: "rect",
         radius: true,
         original: rect,
-        library: |corners, radius, lents| {
-            let [words, numbers] = results(&mut lents.results);
-            ffi::rect(
-                corners,
-                radius,
-                words.words(),
-                numbers.numbers(),
-                lents.answer.answer(),
-            )
+        library: |[ax, ay, bx, by], radius, words, numbers, answer| {
+            ffi::rect(ax, ay, bx, by, radius, words, numbers, answer)
         },
     },
     Shape {
         name: "ellipse",
         radius: false,
         original: |a, b, _| ellipse(a, b),
-        library: |corners, _, lents| {
-            let [words, numbers] = results(&mut lents.results);
-            ffi::ellipse(
-                corners,
-                words.words(),
-                numbers.numbers(),
-                lents.answer.answer(),
-            )
+        library: |[ax, ay, bx, by], _, words, numbers, answer| {
+            ffi::ellipse(ax, ay, bx, by, words, numbers, answer)
         },
     },
     Shape {
         name: "line",
         radius: false,
         original: |a, b, _| line(a, b),
-        library: |corners, _, lents| {
-            let [words, numbers] = results(&mut lents.results);
-            ffi::line(
-                corners,
-                words.words(),
-                numbers.numbers(),
-                lents.answer.answer(),
-            )
+        library: |[ax, ay, bx, by], _, words, numbers, answer| {
+            ffi::line(ax, ay, bx, by, words, numbers, answer)
         },
     },
 ];
-
-fn results(lents: &mut [Lent]) -> [&mut Lent; 2] {
-    match lents {
-        [words, numbers] => [words, numbers],
-        _ => unreachable!("two buffers are lent"),
-    }
-}
 
 /// Two opposite corners, or ends.
 static CORNERS: Group<Numbers> = Group {
@@ -182,23 +157,23 @@ fn compare(shape: &Shape, tally: &mut Tally, random: &mut Random) {
         .as_ref()
         .map_or([1, 24], |made| [1, made.numbers.len()]);
     let rooms = needs.map(|need| Room::draw(need, random, &mut families));
-    let expected = expected(made, &rooms);
+    let expected = match made {
+        Some(made) => Expected::made(&made, &rooms),
+        None => Expected::refused(ARGUMENTS),
+    };
     note_outcome(&expected, &rooms, &mut families);
     tally.count(1, &families);
-    let [words, numbers] = &rooms;
-    let mut lents = Lents {
-        given: Vec::new(),
-        results: vec![
-            Lent::foreign(Entry::Word, words.lent, random),
-            Lent::foreign(Entry::Number, numbers.lent, random),
-        ],
-        answer: Lent::for_answer(random),
+    let mut lents = Lents::with_rooms(Vec::new(), &rooms, random);
+    let [to_shapes, to] = &mut lents.results[..] else {
+        unreachable!("two buffers are lent")
     };
-    let refusal = (shape.library)(corners, radius, &mut lents);
+    let answer = lents.answer.answer();
+    let refusal = (shape.library)(corners, radius, to_shapes.words(), to.numbers(), answer);
     if let Some(wrong) = mismatch(&expected, refusal, &lents) {
         let size = corners.iter().chain([&radius]);
         tally.fail(size.map(|x| significant_bits(x.to_bits())).sum(), || {
             let families = family::list(&families);
+            let [words, numbers] = &rooms;
             format!("    {families}\n    {corners:?}, {radius:e}, {words}, {numbers}\n    {wrong}")
         });
     }
@@ -214,35 +189,10 @@ fn note_box([ax, ay, bx, by]: [f64; 4], families: &mut Vec<Family>) {
     }
 }
 
-/// 5 where nothing is made, then 9 and 8, by document 01.
-fn expected(made: Option<Path>, rooms: &[Room; 2]) -> Expected {
-    let Some(made) = made else {
-        return Expected::refused(ARGUMENTS);
-    };
-    if let Some(place) = made.first_outside() {
-        return Expected::refused_at(place, RESULT);
-    }
-    if rooms.iter().any(Room::is_short) {
-        return Expected::refused(OUTPUT);
-    }
-    Expected {
-        refusal: ACCEPTED,
-        answer: [0, made.anchors(), 1, 0],
-        written: vec![
-            made.shapes.iter().copied().map(u64::from).collect(),
-            made.numbers.iter().map(|x| x.to_bits()).collect(),
-        ],
-    }
-}
-
 fn note_outcome(expected: &Expected, rooms: &[Room; 2], families: &mut Vec<Family>) {
-    let short = rooms.each_ref().map(Room::is_short);
-    families.push(outcome(expected, short.contains(&true)));
+    let short = rooms.iter().any(Room::is_short);
+    families.push(outcome(expected, short));
     if expected.refusal == OUTPUT {
-        families.push(match short {
-            [true, false] => SHORT[0],
-            [false, true] => SHORT[1],
-            _ => SHORT[2],
-        });
+        families.push(SHORT[which_short(rooms)]);
     }
 }

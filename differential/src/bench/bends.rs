@@ -1,13 +1,12 @@
 //! Paths under an affine map.
 
-use super::Race;
+use super::{curves, Race};
 use crate::ffi;
-use crate::original::bezier::{self, Anchor, BezPath, SubPath};
-use crate::original::geom::{Affine, P};
+use crate::original::bezier::{self, BezPath};
+use crate::original::geom::Affine;
 use crate::paths::Path;
 use crate::random::Random;
 use crate::refusal::{ACCEPTED, MOST_ANCHORS};
-use crate::values::uniform;
 use std::hint::black_box;
 
 /// Paths in a round.
@@ -53,18 +52,7 @@ fn original_transform(path: &BezPath, m: Affine) -> BezPath {
 
 /// A closed subpath of as many anchors as there may be, turned and shifted.
 fn path(random: &mut Random) -> (Path, BezPath, Affine) {
-    let mut point = || P::new(0.1 * uniform(random), 0.1 * uniform(random));
-    let anchors = (0..MOST_ANCHORS)
-        .map(|_| Anchor {
-            p: point(),
-            h_in: point(),
-            h_out: point(),
-        })
-        .collect();
-    let path = vec![SubPath {
-        anchors,
-        closed: true,
-    }];
+    let path = curves(MOST_ANCHORS, 0.1, random);
     let (cos, sin) = random.angle();
     let m = [
         cos,

@@ -1,18 +1,19 @@
 //! Hits and boxes of a path of 512 anchors.
 
-use super::Race;
+use super::{curves, point, Race};
 use crate::ffi;
-use crate::original::bezier::{self, Anchor, BezPath, SubPath};
+use crate::original::bezier::{self, BezPath};
 use crate::original::geom::P;
 use crate::paths::Path;
 use crate::random::Random;
 use crate::refusal::{ACCEPTED, MOST_ANCHORS};
-use crate::values::uniform;
 use std::hint::black_box;
 
 /// Inputs of each race, and calls in a round.
 const INPUTS: usize = 16;
 const CALLS: usize = 4;
+/// Of the limit, that the points take.
+const SHARE: f64 = 0.01;
 const TOLERANCE: f64 = 100.0;
 
 struct Input {
@@ -25,7 +26,7 @@ pub struct Inputs(Vec<Input>);
 
 impl Inputs {
     pub fn draw(random: &mut Random) -> Inputs {
-        Inputs((0..INPUTS).map(|_| curves(random)).collect())
+        Inputs((0..INPUTS).map(|_| input(random)).collect())
     }
 
     pub fn races(&self) -> Vec<Race<'_>> {
@@ -121,24 +122,12 @@ fn original_bounds(path: &BezPath) -> crate::original::geom::Bounds {
     bezier::bounds(path)
 }
 
-/// A closed subpath with all its handles, and a point among its anchors.
-fn curves(random: &mut Random) -> Input {
-    let mut point = || P::new(0.01 * uniform(random), 0.01 * uniform(random));
-    let anchors = (0..MOST_ANCHORS)
-        .map(|_| Anchor {
-            p: point(),
-            h_in: point(),
-            h_out: point(),
-        })
-        .collect();
-    let q = point();
-    let original = vec![SubPath {
-        anchors,
-        closed: true,
-    }];
+/// A path, and a point among its anchors.
+fn input(random: &mut Random) -> Input {
+    let original = curves(MOST_ANCHORS, SHARE, random);
     Input {
         path: Path::of(&original),
         original,
-        q,
+        q: point(SHARE, random),
     }
 }

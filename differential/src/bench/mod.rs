@@ -8,7 +8,10 @@ mod hits;
 mod points;
 mod text;
 
+use crate::original::bezier::{Anchor, BezPath, SubPath};
+use crate::original::geom::P;
 use crate::random::Random;
+use crate::values::uniform;
 use std::ops::Range;
 use std::time::Instant;
 
@@ -70,4 +73,22 @@ fn nanoseconds(calls: &mut Calls, at: Range<usize>) -> f64 {
 fn median(mut times: Vec<f64>) -> f64 {
     times.sort_by(f64::total_cmp);
     times[times.len() / 2]
+}
+
+/// A point within this share of the limit.
+fn point(share: f64, random: &mut Random) -> P {
+    P::new(share * uniform(random), share * uniform(random))
+}
+
+/// A closed subpath of such points, with all its handles.
+fn curves(anchors: usize, share: f64, random: &mut Random) -> BezPath {
+    let anchor = |_| Anchor {
+        p: point(share, random),
+        h_in: point(share, random),
+        h_out: point(share, random),
+    };
+    vec![SubPath {
+        anchors: (0..anchors).map(anchor).collect(),
+        closed: true,
+    }]
 }

@@ -1,6 +1,6 @@
 //! Roots, lengths and cubics.
 
-use super::{Race, ROUNDS};
+use super::{point, Race, ROUNDS};
 use crate::curves::{points, Flat};
 use crate::ffi;
 use crate::original::bezier;
@@ -175,5 +175,5 @@ fn positive(random: &mut Random) -> f64 {
 
 /// A vector whose length is within the limit too.
 fn vector(random: &mut Random) -> P {
-    P::new(0.5 * uniform(random), 0.5 * uniform(random))
+    point(0.5, random)
 }

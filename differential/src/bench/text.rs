@@ -1,9 +1,8 @@
 //! Text of numbers and of paths.
 
-use super::{Race, ROUNDS};
+use super::{curves, Race, ROUNDS};
 use crate::ffi;
-use crate::original::bezier::{self, Anchor, BezPath, SubPath};
-use crate::original::geom::P;
+use crate::original::bezier::{self, BezPath};
 use crate::paths::Path;
 use crate::random::Random;
 use crate::refusal::ACCEPTED;
@@ -35,7 +34,7 @@ impl Inputs {
     pub fn draw(random: &mut Random) -> Inputs {
         Inputs {
             numbers: (0..NUMBERS).map(|_| uniform(random)).collect(),
-            paths: (0..4 * PATHS).map(|_| curve(random)).collect(),
+            paths: (0..4 * PATHS).map(|_| written(random)).collect(),
         }
     }
 
@@ -110,20 +109,8 @@ fn original_to_svg_d(path: &BezPath) -> String {
     bezier::to_svg_d(path)
 }
 
-/// A closed subpath with all its handles.
-fn curve(random: &mut Random) -> Written {
-    let mut point = || P::new(0.01 * uniform(random), 0.01 * uniform(random));
-    let anchors = (0..ANCHORS)
-        .map(|_| Anchor {
-            p: point(),
-            h_in: point(),
-            h_out: point(),
-        })
-        .collect();
-    let original = vec![SubPath {
-        anchors,
-        closed: true,
-    }];
+fn written(random: &mut Random) -> Written {
+    let original = curves(ANCHORS, 0.01, random);
     Written {
         path: Path::of(&original),
         length: original_to_svg_d(&original).len(),
