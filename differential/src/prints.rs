@@ -20,8 +20,9 @@ const TRUNCATED: Family = ("jobs", "the square, every truncation");
 const FLIPPED: Family = ("jobs", "the square, every bit");
 const DRAWN: Family = ("jobs", "drawn");
 const LONG: Family = ("jobs", "over 32,768 bytes");
+const BEYOND: Family = ("jobs", "a cut beyond the limit");
 
-const PRINTS: [Family; 7] = [
+const PRINTS: [Family; 8] = [
     ("prints", "a text"),
     ("prints", "an empty line"),
     ("prints", "refused 1"),
@@ -29,13 +30,12 @@ const PRINTS: [Family; 7] = [
     ("prints", "refused 3"),
     ("prints", "refused 4"),
     ("prints", "refused 8"),
+    ("prints", "refused 9"),
 ];
-/// The cut of a job's numbers may break the limit; whether one is drawn is left to chance.
-const NINE: Family = ("prints", "refused 9");
 
 pub fn run(cases: u64, random: &mut Random) -> Tally {
     let families = [
-        vec![SAMPLES, TRUNCATED, FLIPPED, DRAWN, LONG],
+        vec![SAMPLES, TRUNCATED, FLIPPED, DRAWN, LONG, BEYOND],
         LIMITS.to_vec(),
         DAMAGES.families(),
         PRINTS.to_vec(),
@@ -50,6 +50,7 @@ pub fn run(cases: u64, random: &mut Random) -> Tally {
         compare(&job, vec![LONG], &mut tally, random);
     }
     compare(&long_text(), vec![DRAWN], &mut tally, random);
+    compare(&jobs::bytes(&FAR_CORNER), vec![BEYOND], &mut tally, random);
     for _ in 0..cases {
         let mut families = vec![DRAWN];
         let drawing = loop {
@@ -64,6 +65,21 @@ pub fn run(cases: u64, random: &mut Random) -> Tally {
     }
     tally
 }
+
+/// Three anchors at the limit's edge, the second with a radius longer than its sides: a number of its cut is rounded to one beyond
+/// the limit.
+const FAR_CORNER: [u32; 10] = [
+    0x0000_0000,
+    0x1000_0000,
+    0x27ff_fcb1,
+    0x3800_0000,
+    0x27ff_ffff,
+    0x37ff_fe0c,
+    0x87ff_ff59,
+    0x26df_ae78,
+    0x3809_81ba,
+    0xf000_0000,
+];
 
 /// Document 01's square in each of its kinds, whole, cut short anywhere and with any bit changed.
 fn squares(tally: &mut Tally, random: &mut Random) {
@@ -114,9 +130,7 @@ fn long_text() -> Vec<u8> {
 
 fn compare(job: &[u8], mut families: Vec<Family>, tally: &mut Tally, random: &mut Random) {
     let (line, family) = expected(job);
-    if family != NINE {
-        families.push(family);
-    }
+    families.push(family);
     tally.count(1, &families);
     let mut given = Lent::holding_bytes(job, random);
     let mut lent = Lent::foreign(Entry::Byte, LINE, random);
@@ -149,7 +163,7 @@ fn expected(job: &[u8]) -> (String, Family) {
         }
     };
     if let Some(place) = Cache::of(&drawing).first_outside() {
-        return (refused(RESULT, place), NINE);
+        return (refused(RESULT, place), PRINTS[7]);
     }
     let text = to_svg_d(&drawing.cut());
     if text.len() > LINE {

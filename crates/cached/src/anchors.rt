@@ -32,15 +32,7 @@ pub fn move_anchor(
     ensures numbers { λ _. ⌜ now (numbers .exit) ≡ callLists (lent (now (shapes .entry)) (now (anchors .entry)) (now (radii .entry)) (now (numbers .entry)) (now (flags .entry))) kind (move s i new) .numbers ⌝ }
     ensures flags { λ _. ⌜ now (flags .exit) ≡ callLists (lent (now (shapes .entry)) (now (anchors .entry)) (now (radii .entry)) (now (numbers .entry)) (now (flags .entry))) kind (move s i new) .flags ⌝ }
 {
-    let ready = open_edit(
-        shapes,
-        anchors,
-        radii,
-        kind,
-        numbers,
-        flags,
-        new.in_limit(),
-    );
+    let ready = open_edit(shapes, anchors, radii, kind, numbers, flags, new.in_limit());
     match ready {
         Ready::Refused(number, place) => Edited::Refused(number, place),
         Ready::Known(n, way) => {
