@@ -84,41 +84,17 @@ fn put_upper_right(lo: P, hi: P, r: f64, k: f64, made: &mut [f64; 48])
     let right = P { x: k, y: 0.0 };
     let up = P { x: 0.0, y: -k };
     let down = P { x: 0.0, y: k };
+    let west = lo.x + r;
+    let east = hi.x - r;
+    let high = lo.y + r;
+    let low = hi.y - r;
     put_four(
         made,
         0,
-        beside(
-            P {
-                x: lo.x + r,
-                y: lo.y,
-            },
-            left,
-            none,
-        ),
-        beside(
-            P {
-                x: hi.x - r,
-                y: lo.y,
-            },
-            none,
-            right,
-        ),
-        beside(
-            P {
-                x: hi.x,
-                y: lo.y + r,
-            },
-            up,
-            none,
-        ),
-        beside(
-            P {
-                x: hi.x,
-                y: hi.y - r,
-            },
-            none,
-            down,
-        ),
+        beside(P { x: west, y: lo.y }, left, none),
+        beside(P { x: east, y: lo.y }, none, right),
+        beside(P { x: hi.x, y: high }, up, none),
+        beside(P { x: hi.x, y: low }, none, down),
     );
 }
 
@@ -131,41 +107,17 @@ fn put_lower_left(lo: P, hi: P, r: f64, k: f64, made: &mut [f64; 48])
     let right = P { x: k, y: 0.0 };
     let up = P { x: 0.0, y: -k };
     let down = P { x: 0.0, y: k };
+    let west = lo.x + r;
+    let east = hi.x - r;
+    let high = lo.y + r;
+    let low = hi.y - r;
     put_four(
         made,
         4,
-        beside(
-            P {
-                x: hi.x - r,
-                y: hi.y,
-            },
-            right,
-            none,
-        ),
-        beside(
-            P {
-                x: lo.x + r,
-                y: hi.y,
-            },
-            none,
-            left,
-        ),
-        beside(
-            P {
-                x: lo.x,
-                y: hi.y - r,
-            },
-            down,
-            none,
-        ),
-        beside(
-            P {
-                x: lo.x,
-                y: lo.y + r,
-            },
-            none,
-            up,
-        ),
+        beside(P { x: east, y: hi.y }, right, none),
+        beside(P { x: west, y: hi.y }, none, left),
+        beside(P { x: lo.x, y: low }, down, none),
+        beside(P { x: lo.x, y: high }, none, up),
     );
 }
 
