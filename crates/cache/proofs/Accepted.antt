@@ -6,9 +6,9 @@ use mathlib.Core.List.{List}
 use Prim.Native.Nat.{ℕ}
 use native.Mathlib.Omega.{arith}
 use lib.Ieee.{Float}
-use Rattle.views.proofs.Searches.{both}
+use Rattle.views.proofs.Bools.{both}
 use Rattle.refusal.specs.Order.{Test, passes, fails, holds, judge, Verdict, accepted, refused, verdict, tests}
-use Rattle.refusal.proofs.Verdicts.{in-order}
+use Rattle.refusal.proofs.Verdicts.{in-order, failing, refusing, holds-says, accepted-says}
 use Rattle.path.specs.Shape.{total}
 use Rattle.path.specs.Limit.{placeIn}
 use Rattle.path.proofs.Limits.{GoodBelow, search-to}
@@ -24,33 +24,6 @@ use Rattle.cache.specs.Tests.{cacheFits}
 use Rattle.cache.specs.Calls.{buildVerdict}
 
 -- ---- tests
-failing : (k : ℕ) → fails k ≡ passes → ⊥
-failing k e = let z : _≡_ {A = ℕ} 0 1 = cc in omega arith
-
-pub refusing : (n k : ℕ) → refused n k ≡ accepted → ⊥
-refusing n k e = let z : _≡_ {A = ℕ} 0 1 = cc in omega arith
-
-judge-says : (t : Test) (n : ℕ) (later : Verdict) → judge t n later ≡ accepted → (t ≡ passes) × (later ≡ accepted)
-unfolding judge
-judge-says passes n later e = (refl, e)
-judge-says (fails k) n later e = absurd (refusing n k e)
-
-holds-says : (b : Bool) (k : ℕ) → holds b k ≡ passes → b ≡ true
-unfolding holds
-holds-says true k e = refl
-holds-says false k e = absurd (failing k e)
-
--- every test passes
-pub accepted-says : (l a r c m o : Test) → verdict (tests l a r c m o) ≡ accepted → (l ≡ passes) × (a ≡ passes) × (m ≡ passes) × (o ≡ passes)
-accepted-says l a r c m o e =
-    let p7 = judge-says l 7 _ (sym (in-order l a r c m o) ∙ e) in
-    let p5 = judge-says a 5 _ (p7 .1) in
-    let p6 = judge-says r 6 _ (p5 .1) in
-    let p10 = judge-says c 10 _ (p6 .1) in
-    let p9 = judge-says m 9 _ (p10 .1) in
-    let p8 = judge-says o 8 _ (p9 .1) in
-    (p7 .0, p5 .0, p9 .0, p8 .0)
-
 -- where 9 is refused, those before it pass, and none after it refuses 9
 other : (n p k : ℕ) → (n ≡ 9 → ⊥) → refused n p ≡ refused 9 k → ⊥
 other n p k ne e = ne (cc)
@@ -111,8 +84,8 @@ module _ (shapes : List ℕ) (anchors radii : List Float) (kind : ℕ) where
   unfolding buildVerdict
   build-says numbers flags e =
       let t = accepted-says _ _ _ _ _ _ e in
-      let f = both (cacheFits shapes numbers flags) (drawingFits shapes anchors radii) (holds-says _ 0 (t .0)) in
-      (f .0, drawn-by shapes anchors radii kind (f .1) (t .1))
+      let f = both (cacheFits shapes numbers flags) (drawingFits shapes anchors radii) (holds-says _ 0 (t .lists)) in
+      (f .0, drawn-by shapes anchors radii kind (f .1) (t .arguments))
 
   pub build-nine-says : (numbers : List Float) (flags : List ℕ) (k : ℕ) → buildVerdict shapes anchors radii kind numbers flags ≡ refused 9 k → Drawn shapes anchors radii kind
   unfolding buildVerdict

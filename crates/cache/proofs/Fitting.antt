@@ -8,7 +8,7 @@ use lib.Dec.{leb}
 use lib.ListN.{length}
 use lib.Ieee.{Float}
 use borrow.Author.Tests.{leb-true, le-leb, lt-leb}
-use Rattle.views.proofs.Searches.{and-false}
+use Rattle.views.proofs.Bools.{and-false}
 use Rattle.path.specs.declared.shape.Sized.the-variants.{Anchors, Wrong}
 use Rattle.path.specs.Shape.{total, sizedOf}
 use Rattle.path.proofs.Shapes.{Fits}

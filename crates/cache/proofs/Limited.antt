@@ -12,8 +12,8 @@ use lib.ListN.{length}
 use lib.Ieee.{ofBits}
 use borrow.Author.Tests.{lt-ltb, ltb-true, eqb-true}
 use Rattle.path.specs.Limit.{anchorGood}
-use Rattle.views.proofs.Searches.{both}
 use Rattle.views.specs.View.{entry}
+use Rattle.views.proofs.Bools.{both}
 use Rattle.views.specs.Search.{all}
 use Rattle.views.proofs.Laws.{same}
 use Rattle.real.specs.Limit.{inLimit}

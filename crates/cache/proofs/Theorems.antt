@@ -14,6 +14,7 @@ use Rattle.views.specs.View.{entry, overwrite}
 use Rattle.views.specs.Search.{count}
 use Rattle.views.proofs.Laws.{length-overwrite, at-overwrite}
 use Rattle.refusal.specs.Order.{passes, holds, judge, accepted, refused}
+use Rattle.refusal.proofs.Verdicts.{refusing}
 use Rattle.path.specs.declared.anchor.Anchor.{Anchor}
 use Rattle.path.specs.Shape.{total, start}
 use Rattle.path.proofs.Shapes.{total-in}
@@ -55,7 +56,7 @@ use Rattle.cache.proofs.Subpaths.{sub-of}
 use Rattle.cache.proofs.Fitting.{CacheFits, fits-says, fits-is}
 use Rattle.cache.proofs.Outcomes.{cache-bad, cache-good, build-made, assemble-answers, assemble-shapes, assemble-anchors}
 use Rattle.cache.proofs.Limited.{outline-cached, cached-outline}
-use Rattle.cache.proofs.Accepted.{refusing, room-not-nine, Drawn, build-says, build-nine-says, cut-nine-says}
+use Rattle.cache.proofs.Accepted.{room-not-nine, Drawn, build-says, build-nine-says, cut-nine-says}
 
 -- ---- a cache in lists holds every place of the cut
 -- number q of place k

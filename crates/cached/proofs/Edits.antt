@@ -9,9 +9,9 @@ use lib.ListN.{length}
 use lib.Ieee.{Float}
 use borrow.Author.Tests.{le-leb, le-ltb}
 use Rattle.views.specs.View.{entry}
+use Rattle.views.proofs.Bools.{and-false}
 use Rattle.views.specs.Search.{all}
 use Rattle.views.proofs.Laws.{order}
-use Rattle.views.proofs.Searches.{and-false}
 use Rattle.real.specs.Limit.{inLimit}
 use Rattle.refusal.specs.Order.{accepted, refused}
 use Rattle.path.specs.declared.limit.Found.the-variants.{At, Nothing}

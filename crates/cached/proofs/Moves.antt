@@ -12,6 +12,7 @@ use lib.Ieee.{Float, nan}
 use borrow.Author.Tests.{eq-eqb, ne-eqb}
 use Rattle.path.specs.Limit.{anchorGood}
 use Rattle.views.specs.View.{entry}
+use Rattle.views.proofs.Bools.{and-right}
 use Rattle.views.proofs.Laws.{order, same}
 use Rattle.refusal.specs.Order.{accepted, refused}
 use Rattle.path.specs.declared.anchor.Anchor.{Anchor}
@@ -33,7 +34,6 @@ use Rattle.session.specs.Drawing.{Lent, drawn, viewIn}
 use Rattle.session.specs.Edits.{move, Edit, moved, editOf}
 use Rattle.session.specs.Calls.{writtenGood, editVerdict, callAnswer, callLists}
 use Rattle.session.specs.Model.{recutCount}
-use Rattle.session.proofs.Judging.{and-right}
 use Rattle.session.proofs.Splits.{Like}
 use Rattle.session.proofs.Recutting.{given-like}
 use Rattle.session.proofs.Accepted.{move-anchors-left, move-numbers-left, move-flags-left}

@@ -8,8 +8,9 @@ use lib.Dec.{leb, ltb}
 use lib.ListN.{length}
 use lib.Ieee.{Float}
 use borrow.Author.Tests.{leb-true, ltb-true}
+use Rattle.views.proofs.Bools.{and-left, and-right}
 use Rattle.refusal.specs.Order.{Test, passes, fails, holds, judge, Verdict, accepted, refused}
-use Rattle.refusal.proofs.Verdicts.{holds-true, holds-false, in-order}
+use Rattle.refusal.proofs.Verdicts.{holds-true, holds-false, in-order, holds-says}
 use Rattle.path.specs.declared.shape.Sized.the-variants.{Wrong}
 use Rattle.path.specs.declared.shape.Sized.the-variants as sized
 use Rattle.path.specs.Shape.{countOf, total, wordAt, start, hasAnchor}
@@ -28,7 +29,7 @@ use Rattle.cache.specs.Tests.{cacheSize}
 use Rattle.cache.proofs.Fitting.{size-says, size-refused}
 use Rattle.session.specs.Calls.{listsFit, editVerdict}
 use Rattle.session.specs.Model.{lengthsOf, longFor, smallPath}
-use Rattle.session.proofs.Judging.{and-left, and-right, holds-says, places-say, places-then}
+use Rattle.session.proofs.Judging.{places-say, places-then}
 use Rattle.session.proofs.Lents.{Long, long-says, fits-same}
 use Rattle.cached.specs.declared.opening.Ready.the-variants.{Refused, Known}
 use Rattle.cached.specs.Opening.{openedCached, ready, readyOf}

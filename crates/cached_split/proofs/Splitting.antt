@@ -10,6 +10,7 @@ use lib.Ieee.{Float, nan}
 use borrow.Author.Tests.{ltb-true}
 use Rattle.path.specs.Limit.{anchorGood}
 use Rattle.views.specs.View.{entry, overwrite}
+use Rattle.views.proofs.Bools.{and-left, and-right}
 use Rattle.views.proofs.Laws.{at-overwrite}
 use Rattle.real.specs.Limit.{inLimit}
 use Rattle.refusal.specs.Order.{accepted, refused}
@@ -39,7 +40,6 @@ use Rattle.session.specs.Drawing.{Lent, drawn, viewIn}
 use Rattle.session.specs.Edits.{split, Edit, segmentStart, segmentEnd, splitRadii, splitAt, editOf}
 use Rattle.session.specs.Calls.{writtenGood, recutGood, editVerdict, callAnswer, callLists}
 use Rattle.session.specs.Model.{lengthsOf, longFor, recutCount}
-use Rattle.session.proofs.Judging.{and-left, and-right}
 use Rattle.session.proofs.Lents.{Long, long-says, room-same, anchor-is}
 use Rattle.session.proofs.Splits.{Like, split-start, split-count, split-closed, split-total, split-length}
 use Rattle.session.proofs.Recutting.{given-like}

@@ -10,9 +10,10 @@ use lib.ListN.{length, getD}
 use lib.Ieee.{Float, nan}
 use borrow.Author.Tests.{le-leb, lt-leb}
 use Rattle.views.specs.View.{entry, overwrite}
+use Rattle.views.proofs.Bools.{and-false}
 use Rattle.views.specs.Search.{all}
 use Rattle.views.proofs.Laws.{at-overwrite, overwrite-cong}
-use Rattle.views.proofs.Searches.{and-false, all-cong}
+use Rattle.views.proofs.Searches.{all-cong}
 use Rattle.real.specs.Limit.{inLimit}
 use Rattle.refusal.specs.Order.{passes, holds, judge, Verdict, accepted, refused}
 use Rattle.path.specs.declared.anchor.Anchor.{Anchor}

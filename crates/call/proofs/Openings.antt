@@ -10,7 +10,8 @@ use lib.Dec.{leb}
 use lib.ListN.{length}
 use lib.Ieee.{Float}
 use borrow.Author.Tests.{leb-true, le-leb, lt-leb, lt-ltb, le-ltb}
-use Rattle.views.proofs.Searches.{and-false, first-all, first-at}
+use Rattle.views.proofs.Searches.{first-all, first-at}
+use Rattle.views.proofs.Bools.{and-false}
 use Rattle.refusal.specs.Order.{Test, passes, fails, holds, judge, Verdict, accepted, refused}
 use Rattle.refusal.proofs.Verdicts.{holds-true, holds-false}
 use Rattle.path.specs.declared.shape.Sized.the-variants.{Wrong}

@@ -10,8 +10,8 @@ use lib.Seq.{length-take-le, getD-take}
 use lib.Ieee.{Float, nan}
 use borrow.Author.Tests.{leb-true, le-leb, lt-leb}
 use Rattle.views.specs.View.{tabulate, overwrite}
+use Rattle.views.proofs.Bools.{and-false, both}
 use Rattle.views.proofs.Laws.{as-tabulate, length-overwrite, at-overwrite}
-use Rattle.views.proofs.Searches.{and-false, both}
 use Rattle.call_list.specs.declared.calls.Calls.the-variants.{Refused, Read}
 use Rattle.call_list.specs.Input.{countIn, listFits, codeAt, valueAt, callsAnswer, codesLeft, valuesLeft, codesIn, valuesIn}
 

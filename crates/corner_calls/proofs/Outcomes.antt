@@ -9,9 +9,10 @@ use lib.ListN.{length, getD}
 use lib.Ieee.{Float}
 use borrow.Author.Tests.{le-leb, lt-leb}
 use Rattle.views.specs.View.{entry, overwrite}
+use Rattle.views.proofs.Bools.{and-false}
 use Rattle.views.specs.Search.{all}
 use Rattle.views.proofs.Laws.{overwrite-cong}
-use Rattle.views.proofs.Searches.{and-false, all-cong}
+use Rattle.views.proofs.Searches.{all-cong}
 use Rattle.real.specs.Limit.{inLimit}
 use Rattle.refusal.specs.Order.{holds, judge, Verdict, accepted, refused}
 use Rattle.refusal.proofs.Verdicts.{in-order}

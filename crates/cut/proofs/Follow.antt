@@ -5,6 +5,7 @@ use mathlib.Core.Bool.{Bool, true, false, _&&_, _||_, cond}
 use Prim.Native.Nat.{ℕ, suc, _≤_, _<_}
 use native.Mathlib.Omega.{arith}
 use lib.Ieee.{Float, lt}
+use Rattle.views.proofs.Bools.{both}
 use Rattle.path.specs.declared.anchor.Anchor.{Anchor}
 use Rattle.corner.specs.declared.corner.Corner.{Corner}
 use Rattle.corner.specs.declared.cut.CornerKind.{CornerKind}
@@ -18,7 +19,7 @@ use Rattle.cut.specs.View.{View, arrives, leaves}
 use Rattle.path.specs.Shape.{prev, next}
 use Rattle.cut.specs.Places.{cornerAt, ownAt, askedAt, fittedAt, isCut, cutAt, trim, trimmedAt, inAt, outAt, placeAt}
 use Rattle.cut.specs.Near.{near}
-use Rattle.cut.proofs.Steps.{prev-lt, next-lt, next-prev, and-both, near-self, near-more, near-prev, near-next, leaves-prev}
+use Rattle.cut.proofs.Steps.{prev-lt, next-lt, next-prev, near-self, near-more, near-prev, near-next, leaves-prev}
 
 -- j is an index of w, within k steps of i
 pub record In (w : View) (i k j : ℕ) : Type 0 where
@@ -44,7 +45,7 @@ cond-same false c x y z e h = rw (← e)
 -- ---- a corner that is found has both neighbours
 pub inner : (w : View) (j : ℕ) → cornerAt w j .found ≡ true → (arrives w j ≡ true) × (leaves w j ≡ true)
 unfolding cornerAt
-inner w j e = and-both (arrives w j) (leaves w j) (go (arrives w j && leaves w j) e)
+inner w j e = both (arrives w j) (leaves w j) (go (arrives w j && leaves w j) e)
   where
     go : (b : Bool) → cond b (cornerOf (w .chords) (w .anchor j) (w .anchor (prev (w .n) j)) (w .anchor (next (w .n) j))) noCorner .found ≡ true → b ≡ true
     go true h = refl
@@ -88,8 +89,8 @@ module _ (v w : View) (s : ℕ → ℕ) (i : ℕ) (f : Follows v w s i) where
       alike : (arrives w j && leaves w j) ≡ true
           → cornerOf (w .chords) (w .anchor j) (w .anchor (prev (w .n) j)) (w .anchor (next (w .n) j)) ≡ cornerOf (v .chords) (v .anchor (s j)) (v .anchor (prev (v .n) (s j))) (v .anchor (next (v .n) (s j)))
       alike e =
-          let both = and-both (arrives w j) (leaves w j) e in
-          cc (f .chords, f .anchors j (more 2 j h), f .anchors (prev (w .n) j) (step-back 2 j h (both .0)), f .anchors (next (w .n) j) (step-on 2 j h (both .1)), f .back j h (both .0), f .on j h (both .1))
+          let sides = both (arrives w j) (leaves w j) e in
+          cc (f .chords, f .anchors j (more 2 j h), f .anchors (prev (w .n) j) (step-back 2 j h (sides .0)), f .anchors (next (w .n) j) (step-on 2 j h (sides .1)), f .back j h (sides .0), f .on j h (sides .1))
 
   asked-same : (j : ℕ) → In w i 2 j → askedAt w j ≡ askedAt v (s j)
   unfolding askedAt ownAt

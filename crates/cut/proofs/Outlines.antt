@@ -11,6 +11,7 @@ use lib.Ieee.{lt, ofBits}
 use lib.ListN.{length, length-append}
 use borrow.Author.Tests.{lt-ltb, le-ltb}
 use Rattle.views.specs.Search.{count}
+use Rattle.views.proofs.Bools.{and-false}
 use Rattle.views.specs.View.{tabulate}
 use Rattle.views.proofs.Laws.{tabulate-more}
 use Rattle.views.proofs.Searches.{count-more, count-same}
@@ -27,10 +28,6 @@ use Rattle.cut.proofs.Steps.{next-prev, prev-lt, next-lt}
 
 -- ---- the number of anchors
 
-and-nothing : (c : Bool) → (c && false) ≡ false
-and-nothing true = refl
-and-nothing false = refl
-
 one-more : (g : ℕ → List Anchor) (n : ℕ) → length (joined g (suc n)) ≡ length (joined g n) + length (g n)
 unfolding joined
 one-more g n = length-append (joined g n) (g n)
@@ -38,7 +35,7 @@ one-more g n = length-append (joined g n) (g n)
 -- a cut place has two anchors, of which anchor 0 of a closed subpath leaves one for the end
 size-cut : (c : Bool) (f : ℕ → Place) (n : ℕ) → f (suc n) .cut ≡ true → length (anchorsAt c f (suc n)) ≡ 2
 unfolding anchorsAt
-size-cut c f n e = rw (e, eqb·suc-zero n, and-nothing c)
+size-cut c f n e = rw (e, eqb·suc-zero n, and-false c)
 
 size-uncut : (c : Bool) (f : ℕ → Place) (n : ℕ) → f n .cut ≡ false → length (anchorsAt c f n) ≡ 1
 unfolding anchorsAt
@@ -57,11 +54,11 @@ unfolding heldBack
 heldBack-uncut c f n e = rw e (go (ltb 0 n))
   where
     go : (b : Bool) → length (cond {A = List Anchor} (c && (b && false)) (f 0 .start ∷ []) []) ≡ 0
-    go b = rw (and-nothing b, and-nothing c)
+    go b = rw (and-false b, and-false c)
 
 heldBack-none : (c : Bool) (f : ℕ → Place) → length (heldBack 0 c f) ≡ 0
 unfolding heldBack
-heldBack-none c f = rw (and-nothing c)
+heldBack-none c f = rw (and-false c)
 
 heldBack-same : (c : Bool) (f : ℕ → Place) (n : ℕ) → heldBack (suc (suc n)) c f ≡ heldBack (suc n) c f
 unfolding heldBack
@@ -119,13 +116,13 @@ assembled-same n c f g e = ap₂ _++_ (joined-same (anchorsAt c f) (anchorsAt c 
     each i l = rw (e i l)
 
     last : (n : ℕ) → ((i : ℕ) → i < n → f i ≡ g i) → heldBack n c f ≡ heldBack n c g
-    last zero e = rw (and-nothing c)
+    last zero e = rw (and-false c)
     last (suc n) e = rw (e 0 (suc-le-suc zero-le))
 
 -- ---- what is kept
 pub side-kept : (v : View) (j : ℕ) → isCut v j ≡ false → isCut v (next (v .n) j) ≡ false → trimmedAt v j ≡ record { out = v .anchor j .«h_out»; into = v .anchor (next (v .n) j) .«h_in» }
 unfolding trimmedAt
-side-kept v j e h = rw (e, h, and-nothing (leaves v j))
+side-kept v j e h = rw (e, h, and-false (leaves v j))
 
 -- an anchor that is not cut, between two that are not
 pub place-kept : (v : View) (i : ℕ) → i < v .n → isCut v i ≡ false → isCut v (prev (v .n) i) ≡ false → isCut v (next (v .n) i) ≡ false
@@ -165,7 +162,7 @@ pub last-uncut : (v : View) (i : ℕ) → v .closed ≡ false → v .n ≡ i + 1
 unfolding leaves
 last-uncut v i e h =
     let l : leaves v i ≡ false = rw (e, h, le-ltb (i + 1) (i + 1) (le-refl (i + 1))) in
-    not-cut v i (rw l (and-nothing (arrives v i)))
+    not-cut v i (rw l (and-false (arrives v i)))
 
 -- ---- with no cut every bit stays
 one-each : (f : ℕ → Anchor) (n : ℕ) → joined (λ i. f i ∷ []) n ≡ tabulate n f
@@ -177,7 +174,7 @@ pub uncut-kept : (v : View) → ((i : ℕ) → i < v .n → isCut v i ≡ false)
 unfolding cutCorners assembled heldBack anchorsAt
 uncut-kept v h =
     assembled-same (v .n) (v .closed) (placeAt v) (λ i. record { cut = false; start = v .anchor i; end = withoutHandles origin }) kept
-    ∙ rw (and-nothing (ltb 0 (v .n)), and-nothing (v .closed)) (append-nil (joined (λ i. v .anchor i ∷ []) (v .n)) ∙ one-each (v .anchor) (v .n))
+    ∙ rw (and-false (ltb 0 (v .n)), and-false (v .closed)) (append-nil (joined (λ i. v .anchor i ∷ []) (v .n)) ∙ one-each (v .anchor) (v .n))
   where
     kept : (i : ℕ) → i < v .n → placeAt v i ≡ record { cut = false; start = v .anchor i; end = withoutHandles origin }
     kept i l = place-kept v i l (h i l) (h (prev (v .n) i) (prev-lt (v .n) i l)) (h (next (v .n) i) (next-lt (v .n) i l))

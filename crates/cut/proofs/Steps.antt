@@ -7,6 +7,7 @@ use native.Mathlib.Omega.{arith}
 use lib.Dec.{leb, ltb}
 use borrow.Author.Tests.{leb-true, le-leb, lt-leb, lt-ltb, le-ltb}
 use Rattle.views.proofs.Laws.{order}
+use Rattle.views.proofs.Bools.{both}
 use Rattle.path.specs.Shape.{prev, next}
 use Rattle.cut.specs.Near.{gap, near, around, spanOf}
 
@@ -49,15 +50,11 @@ or-right false b e = e
 pub not-both : (b : Bool) → b ≡ false → b ≡ true → ⊥
 not-both b e h = let z : _≡_ {A = ℕ} 0 1 = cc (e, h) in omega arith
 
-pub and-both : (a b : Bool) → (a && b) ≡ true → (a ≡ true) × (b ≡ true)
-and-both true b e = (refl, e)
-and-both false b e = absurd (not-both false refl e)
-
 pub near-cases : (k n : ℕ) (c : Bool) (i j : ℕ) → near k n c i j ≡ true → (gap i j ≤ k) ⊎ ((c ≡ true) × (n ≤ gap i j + k))
 unfolding near
 near-cases k n c i j e =
     ⊎-elim (λ (a : leb (gap i j) k ≡ true). inl (leb-true (gap i j) k a))
-    (λ (b : (c && leb n (gap i j + k)) ≡ true). let p = and-both c (leb n (gap i j + k)) b in inr (p .0, leb-true n (gap i j + k) (p .1)))
+    (λ (b : (c && leb n (gap i j + k)) ≡ true). let p = both c (leb n (gap i j + k)) b in inr (p .0, leb-true n (gap i j + k) (p .1)))
     (or-cases (leb (gap i j) k) (c && leb n (gap i j + k)) e)
 
 pub near-in : (k n : ℕ) (c : Bool) (i j : ℕ) → gap i j ≤ k → near k n c i j ≡ true

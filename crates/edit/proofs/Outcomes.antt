@@ -8,7 +8,7 @@ use lib.Dec.{ltb}
 use lib.ListN.{length, set, length-set}
 use lib.Ieee.{Float}
 use borrow.Author.Tests.{lt-ltb, le-ltb}
-use Rattle.views.proofs.Searches.{and-false}
+use Rattle.views.proofs.Bools.{and-false}
 use Rattle.real.specs.Limit.{inLimit}
 use Rattle.refusal.specs.Order.{passes, holds, judge, Verdict, accepted, refused}
 use Rattle.refusal.proofs.Verdicts.{holds-true, holds-false, in-order, by-arguments, by-reference, by-capacity}

@@ -10,8 +10,8 @@ use lib.ListN.{length}
 use lib.Ieee.{Float, nan}
 use borrow.Author.Tests.{lt-ltb, le-ltb, le-leb, lt-leb}
 use Rattle.views.specs.View.{entry, tabulate}
+use Rattle.views.proofs.Bools.{and-false}
 use Rattle.views.proofs.Laws.{order, same, length-tabulate, at-tabulate, as-overwrite}
-use Rattle.views.proofs.Searches.{and-false}
 use Rattle.refusal.specs.Order.{passes, holds, accepted, refused}
 use Rattle.refusal.proofs.Verdicts.{holds-true, holds-false, in-order, by-reference, by-none}
 use Rattle.geom.specs.Point.{point}

@@ -5,7 +5,7 @@ use Prim.Native.Nat.{ℕ}
 use lib.Dec.{T}
 use lib.Ieee.{Float, nan, inf, fin, lt, le, eq}
 use lib.Ieee.Bits.{is-true}
-use Rattle.views.proofs.Searches.{and-false}
+use Rattle.views.proofs.Bools.{and-false}
 use Rattle.root.specs.Root.{rootOf}
 use Rattle.root.proofs.Theorems.{root-mono}
 use Rattle.real.specs.Limit.{inLimit}

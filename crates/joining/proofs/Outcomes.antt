@@ -9,7 +9,7 @@ use lib.ListN.{length, set}
 use lib.Ieee.{Float}
 use borrow.Author.Tests.{lt-ltb, le-ltb, le-leb, lt-leb}
 use Rattle.views.specs.View.{tabulate, overwrite}
-use Rattle.views.proofs.Searches.{and-false}
+use Rattle.views.proofs.Bools.{and-false}
 use Rattle.refusal.specs.Order.{passes, fails, holds, accepted, refused}
 use Rattle.refusal.proofs.Verdicts.{holds-true, holds-false, by-lists, by-arguments, by-reference, by-capacity, by-result, by-output, by-none}
 use Rattle.path.specs.declared.anchor.Anchor.{Anchor}

@@ -11,8 +11,9 @@ use lib.Ieee.{Float, binary64, ofBits, neg}
 use borrow.Author.Count.{below-none, below-more}
 use borrow.Author.Tests.{lt-ltb, le-ltb}
 use Rattle.views.specs.View.{entry}
+use Rattle.views.proofs.Bools.{and-false, both}
 use Rattle.views.specs.Search.{all}
-use Rattle.views.proofs.Searches.{both, all-true, all-false, all-says, and-false, first-all, first-at}
+use Rattle.views.proofs.Searches.{all-true, all-false, all-says, first-all, first-at}
 use Rattle.real.specs.Limit.{inLimit}
 use Rattle.real.proofs.Limits.{in-limit}
 use Rattle.path.specs.Limit.{withinLimit, anchorIn, placeIn, firstBad}

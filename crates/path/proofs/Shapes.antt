@@ -12,7 +12,7 @@ use lib.ListN.{length}
 use lib.Seq.{take-all}
 use borrow.Author.Tests.{leb-true, ltb-true, lt-ltb, le-ltb}
 use Rattle.views.proofs.Laws.{order}
-use Rattle.views.proofs.Searches.{both}
+use Rattle.views.proofs.Bools.{both}
 use Rattle.path.specs.Shape.{countOf, total, wordAt, start, hasAnchor, prev, next, sizedOf}
 use Rattle.path.specs.declared.shape.Sized.the-variants.{Anchors, Wrong}
 

@@ -10,6 +10,7 @@ use lib.ListN.{length, getD}
 use lib.Ieee.{Float, nan}
 use borrow.Author.Tests.{leb-true}
 use Rattle.views.specs.View.{entry}
+use Rattle.views.proofs.Bools.{both}
 use Rattle.views.proofs.Laws.{order, as-tabulate}
 use Rattle.path.specs.Flat.{anchorAt, numbers, putAnchor}
 use Rattle.path.proofs.Places.{length-put, anchor-number, numbers-at}
@@ -19,7 +20,6 @@ use Rattle.cut.specs.declared.subpath.Window.{Window}
 use Rattle.cut.specs.Near.{near}
 use Rattle.cut.specs.Places.{placeNumbers}
 use Rattle.cut.specs.Recut.{putPlace}
-use Rattle.cut.proofs.Steps.{and-both}
 use Rattle.cut.proofs.Stages.{touched, numbersAt, flagsAt}
 use Rattle.cache.proofs.Reached.{start-number, end-number}
 use Rattle.recutting.specs.Near.{reachedIn, nearNumbers, nearFlags}
@@ -55,7 +55,7 @@ module _ (sub : Sub) (w : Window) where
 
   from-first : (k : ℕ) → reachedIn sub w k ≡ true → first ≤ k
   unfolding reachedIn
-  from-first k h = leb-true first k (and-both (leb first k) (ltb k (first + sub .n) && near (w .reach) (sub .n) (sub .closed) (w .at) (k - first)) h .0)
+  from-first k h = leb-true first k (both (leb first k) (ltb k (first + sub .n) && near (w .reach) (sub .n) (sub .closed) (w .at) (k - first)) h .0)
 
   all-numbers : (from xs : List Float) (j : ℕ) → numbersBefore from xs (sub .n) j ≡ cond (reachedIn sub w (j / 12)) (entry from j) (entry xs j)
   unfolding numbersAt touched reachedIn

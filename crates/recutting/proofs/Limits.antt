@@ -8,6 +8,7 @@ use lib.Ieee.{Float}
 use borrow.Author.Count.{below-more}
 use borrow.Author.Tests.{le-leb, lt-leb, lt-ltb}
 use Rattle.views.specs.View.{entry}
+use Rattle.views.proofs.Bools.{or-true}
 use Rattle.views.proofs.Searches.{all-true, all-false}
 use Rattle.real.specs.Limit.{inLimit}
 use Rattle.path.proofs.Limits.{GoodBelow}
@@ -53,10 +54,6 @@ module _ (sub : Sub) (w : Window) where
       skip-good : near (w .reach) (sub .n) (sub .closed) (w .at) j ≡ false → nearIn sub w xs (sub .first + j) ≡ true
       unfolding nearIn
       skip-good e = rw (reached-index j l, e)
-
-      or-true : (b : Bool) → (b || true) ≡ true
-      or-true true = refl
-      or-true false = refl
 
       test-good : twelveIn xs (sub .first + j) ≡ true → nearIn sub w xs (sub .first + j) ≡ true
       unfolding nearIn

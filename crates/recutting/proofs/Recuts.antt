@@ -9,6 +9,7 @@ use lib.ListN.{length, getD}
 use lib.Ieee.{Float, nan}
 use borrow.Author.Tests.{ltb-true}
 use Rattle.views.specs.View.{entry}
+use Rattle.views.proofs.Bools.{both}
 use Rattle.views.specs.Search.{all}
 use Rattle.views.proofs.Laws.{at-tabulate, tabulate-cong}
 use Rattle.views.proofs.Searches.{all-cong}
@@ -26,7 +27,6 @@ use Rattle.cut.specs.Near.{near, nearCount}
 use Rattle.cut.specs.Places.{isCut, placeAt, placeNumbers}
 use Rattle.cut.specs.Rows.{flagOf}
 use Rattle.cut.specs.Recut.{reached, recutNumbers, recutFlags}
-use Rattle.cut.proofs.Steps.{and-both}
 use Rattle.cache.specs.Tests.{twelveIn}
 use Rattle.cache.proofs.Reached.{first-same}
 use Rattle.recutting.specs.declared.recutting.Recut.the-variants.{Bad, Count}
@@ -57,7 +57,7 @@ module _ (anchors radii : List Float) (kind : CornerKind) (sub : Sub) (w : Windo
       let a = leb first k in
       let b = ltb k (first + n) in
       let c = near (w .reach) n (sub .closed) (w .at) (k - first) in
-      ltb-true k (first + n) (and-both b c (and-both a (b && c) h .1) .0)
+      ltb-true k (first + n) (both b c (both a (b && c) h .1) .0)
 
   -- ---- the scratch lists
   module _ (made₀ made : List Float) (long : (first + n) * 12 ≤ length made₀) (e : made ≡ recutNumbers v first (w .reach) (w .at) made₀) where

@@ -10,6 +10,7 @@ use lib.ListN.{length, getD, take, drop}
 use lib.Ieee.{Float, nan}
 use borrow.Author.Tests.{leb-true, ltb-true, le-leb, lt-ltb}
 use Rattle.views.specs.View.{entry}
+use Rattle.views.proofs.Bools.{both}
 use Rattle.views.specs.Search.{all}
 use Rattle.views.proofs.Laws.{order, length-tabulate, at-tabulate}
 use Rattle.real.specs.Limit.{inLimit}
@@ -25,7 +26,7 @@ use Rattle.cut.specs.Near.{gap, near, nearCount}
 use Rattle.cut.specs.Places.{isCut, placeAt, placeNumbers}
 use Rattle.cut.specs.Rows.{flagOf}
 use Rattle.cut.specs.Recut.{reached, recutNumbers, recutFlags}
-use Rattle.cut.proofs.Steps.{and-both, near-cases, near-in}
+use Rattle.cut.proofs.Steps.{near-cases, near-in}
 use Rattle.cut.proofs.RowLocality.{Row, row-locality, row-cut}
 use Rattle.cache.proofs.Reached.{count-cong, reached-count}
 use Rattle.recutting.specs.declared.recutting.Recut.the-variants.{Bad, Count}
@@ -57,8 +58,8 @@ module _ (sub : Sub) (w : Window) (k : ℕ) (low : w .reach ≤ w .at) (high : w
   band-of : reachedIn sub w k ≡ true → Band (sub .first + w .at) (w .reach) k
   unfolding reachedIn gap
   band-of h =
-      let t = and-both a (b && c) h in
-      let u = and-both b c (t .1) in
+      let t = both a (b && c) h in
+      let u = both b c (t .1) in
       let l = leb-true (sub .first) k (t .0) in
       let m = ltb-true k (sub .first + sub .n) (u .0) in
       ⊎-elim (λ (g : gap (w .at) (k - sub .first) ≤ w .reach). record { low = omega arith; high = omega arith })

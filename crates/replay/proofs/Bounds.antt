@@ -10,20 +10,19 @@ use lib.ListN.{length}
 use borrow.Author.Tests.{leb-true, ltb-true}
 use Rattle.path.proofs.Shapes.{has-says}
 use Rattle.views.specs.Search.{firstFalse, count}
+use Rattle.views.proofs.Bools.{and-left, and-right}
 use Rattle.refusal.specs.Order.{Test, passes, fails, holds, judge, Verdict, accepted, refused}
-use Rattle.refusal.proofs.Verdicts.{in-order}
+use Rattle.refusal.proofs.Verdicts.{in-order, holds-says, accepted-says, refusing}
 use Rattle.path.specs.Shape.{total, wordAt, start}
 use Rattle.path.specs.Limit.{placeIn}
 use Rattle.call.specs.Tests.{places, drawingLimit}
 use Rattle.cut_calls.specs.CornerKinds.{kindOf, isKnown}
-use Rattle.cache.proofs.Accepted.{refusing}
 use Rattle.session.specs.declared.answers.Edited.{Edited}
 use Rattle.session.specs.declared.answers.Edited.the-variants.{Refused, Accepted}
 use Rattle.session.specs.Drawing.{Lent, drawn}
 use Rattle.session.specs.Edits.{Call, move, setRadius, split, Edit, editOf}
 use Rattle.session.specs.Calls.{listsFit, writtenGood, recutGood, editLimit, editVerdict, editAnswer, editedLists, listsAfter, callVerdict, callAnswer, callLists}
 use Rattle.session.specs.Model.{lengthsOf, longFor, smallPath}
-use Rattle.session.proofs.Judging.{and-left, and-right, holds-says, accepted-says}
 use Rattle.session.proofs.Lents.{fits-same}
 use Rattle.session.proofs.Effects.{segment-sub}
 use Rattle.session.proofs.Step.{words-kept}

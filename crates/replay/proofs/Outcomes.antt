@@ -9,9 +9,10 @@ use lib.ListN.{length}
 use lib.Ieee.{Float}
 use borrow.Author.Tests.{leb-true}
 use Rattle.views.specs.View.{overwrite}
+use Rattle.views.proofs.Bools.{and-left, and-right}
 use Rattle.views.proofs.Laws.{length-tabulate}
 use Rattle.refusal.specs.Order.{Test, passes, fails, holds, judge, Verdict, accepted, refused}
-use Rattle.refusal.proofs.Verdicts.{in-order, by-lists, holds-true, holds-false}
+use Rattle.refusal.proofs.Verdicts.{in-order, by-lists, holds-true, holds-false, holds-says, refusing}
 use Rattle.path.specs.Shape.{total}
 use Rattle.path.specs.Limit.{placeIn}
 use Rattle.call.specs.declared.opening.Opened.the-variants as opened
@@ -20,11 +21,10 @@ use Rattle.call.specs.Tests.{drawingLimit}
 use Rattle.call.specs.Answers.{outlineAnswer, listLeft}
 use Rattle.call.proofs.Openings.{places-pass, answer-refused, answer-open}
 use Rattle.cache.specs.Calls.{buildVerdict, buildAnswer, buildNumbers, buildFlags}
-use Rattle.cache.proofs.Accepted.{refusing}
 use Rattle.session.specs.Drawing.{Lent, drawn}
 use Rattle.session.specs.Calls.{listsFit, listsAfter, builtVerdict, builtLists}
 use Rattle.session.specs.Session.{answers, afterAll, played}
-use Rattle.session.proofs.Judging.{and-left, and-right, true-false, holds-says, places-then}
+use Rattle.session.proofs.Judging.{true-false, places-then}
 use Rattle.session.proofs.Plays.{after-played, demand3-played}
 use Rattle.cached.specs.Opening.{lent, openedCached}
 use Rattle.replay.specs.declared.calls.Replayed.{Replayed}

@@ -8,6 +8,7 @@ use lib.ListN.{length, take}
 use lib.Ieee.{Float}
 use Rattle.views.proofs.Laws.{length-tabulate}
 use Rattle.refusal.specs.Order.{judge, accepted}
+use Rattle.refusal.proofs.Verdicts.{accepted-says}
 use Rattle.path.specs.Shape.{total}
 use Rattle.path.specs.Flat.{anchorAt, nth}
 use Rattle.call.specs.declared.answers.Outline.the-variants as outline
@@ -25,7 +26,6 @@ use Rattle.cache.specs.Calls.{heldOutline, assembleVerdict, assembleAnswer, ass
 use Rattle.session.specs.Drawing.{Drawing, Lent}
 use Rattle.session.specs.Outline.{Outline, plainCut, plainText, assembledFrom}
 use Rattle.session.specs.Demand.{Holds, Outlined, Agrees}
-use Rattle.session.proofs.Judging.{accepted-says}
 use Rattle.session.proofs.Step.{Fine}
 use Rattle.session.proofs.Demand.{agreed}
 use Rattle.reporting.specs.Gathered.{heldText, GathersIn, Gathers}

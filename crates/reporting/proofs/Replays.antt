@@ -15,6 +15,7 @@ use Rattle.views.specs.Search.{all}
 use Rattle.views.proofs.Laws.{at-overwrite, tabulate-more}
 use Rattle.views.proofs.Searches.{all-false}
 use Rattle.refusal.specs.Order.{holds, judge, Verdict, refused}
+use Rattle.refusal.proofs.Verdicts.{holds-says}
 use Rattle.path.specs.declared.anchor.Anchor.{Anchor}
 use Rattle.path.specs.Shape.{total, wordAt, start}
 use Rattle.path.proofs.Limits.{GoodBelow, search-to}
@@ -29,7 +30,6 @@ use Rattle.session.specs.declared.answers.Edited.the-variants.{Refused, Accepte
 use Rattle.session.specs.Drawing.{Lent, drawn}
 use Rattle.session.specs.Edits.{Call, move, setRadius, split, placesOf}
 use Rattle.session.specs.Calls.{listsFit, listsAfter, callAnswer, callLists, builtVerdict, builtLists}
-use Rattle.session.proofs.Judging.{holds-says}
 use Rattle.session.specs.Model.{lengthsOf}
 use Rattle.session.specs.Session.{played}
 use Rattle.replay.specs.Encoding.{callOf, callAt, callCount, callsOf, callsFit, callsKnown, told, stands, answerWords, subpathOf}

@@ -9,7 +9,7 @@ use lib.Dec.{leb, ltb, eqb}
 use lib.Arith.{lt-of-le-ne}
 use borrow.Author.Tests.{lt-ltb, le-ltb, eq-eqb, ne-eqb}
 use Rattle.views.proofs.Laws.{order, same}
-use Rattle.views.proofs.Searches.{and-false}
+use Rattle.views.proofs.Bools.{and-false}
 use Rattle.path.specs.Shape.{total}
 use Rattle.cut.specs.declared.subpath.Sub.{Sub}
 use Rattle.cut.specs.declared.subpath.Window.{Window}

@@ -9,7 +9,9 @@ use lib.Dec.{leb}
 use lib.ListN.{length}
 use borrow.Author.Tests.{leb-true, ne-eqb}
 use Rattle.views.specs.Search.{count}
+use Rattle.views.proofs.Bools.{and-left, and-right}
 use Rattle.refusal.specs.Order.{Rank, lists, arguments, reference, capacity, result, output, number, Test, passes, fails, judge, firstFailing, Verdict, accepted, refused, verdict}
+use Rattle.refusal.proofs.Verdicts.{holds-says, accepted-says}
 use Rattle.path.specs.Shape.{countOf, total, wordAt, start}
 use Rattle.path.proofs.Shapes.{total-in, has-says}
 use Rattle.cut.specs.declared.subpath.Sub.{Sub}
@@ -19,7 +21,6 @@ use Rattle.session.specs.Drawing.{Drawing, Lent, drawn}
 use Rattle.session.specs.Edits.{Call, move, setRadius, split, Edit, editOf, moved, resized, splitAt}
 use Rattle.session.specs.Calls.{listsFit, editVerdict, editAnswer, editedLists, listsAfter, callVerdict, callAnswer, callLists}
 use Rattle.session.specs.Model.{lengthsOf, longFor, smallPath}
-use Rattle.session.proofs.Judging.{and-left, and-right, holds-says, accepted-says}
 use Rattle.session.proofs.Lents.{fits-same}
 use Rattle.session.proofs.Effects.{segment-sub, segment-there, sub-small}
 use Rattle.session.proofs.Splits.{segment-in, split-count, split-start, split-total}

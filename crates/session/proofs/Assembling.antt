@@ -10,6 +10,7 @@ use lib.ListN.{length, take, drop}
 use lib.Ieee.{Float, nan}
 use borrow.Author.Tests.{leb-true, le-leb}
 use Rattle.views.proofs.Searches.{all-says, all-true}
+use Rattle.views.proofs.Bools.{and-left, and-right}
 use Rattle.path.proofs.Anchors.{anchor-good}
 use Rattle.views.specs.View.{entry, overwrite}
 use Rattle.views.specs.Search.{all}
@@ -43,7 +44,6 @@ use Rattle.cache.specs.Calls.{heldOutline, assembleVerdict, assembleShapes, ass
 use Rattle.session.specs.Edits.{placesOf}
 use Rattle.session.specs.Outline.{Outline, plainCut, plainText, assembledFrom}
 use Rattle.session.specs.Demand.{Holds, Outlined}
-use Rattle.session.proofs.Judging.{and-left, and-right}
 use Rattle.session.proofs.Lents.{anchor-is}
 use Rattle.session.proofs.Step.{Fine}
 use Rattle.session.proofs.Outlines.{outline-plain, outline-cut, words-cut}

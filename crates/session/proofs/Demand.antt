@@ -9,8 +9,10 @@ use lib.ListN.{length}
 use lib.Ieee.{nan}
 use borrow.Author.Tests.{leb-true}
 use Rattle.views.specs.View.{entry, overwrite}
+use Rattle.views.proofs.Bools.{and-left, and-right}
 use Rattle.views.proofs.Laws.{length-overwrite, at-overwrite}
 use Rattle.refusal.specs.Order.{accepted}
+use Rattle.refusal.proofs.Verdicts.{holds-says, accepted-says}
 use Rattle.path.specs.Flat.{anchorAt}
 use Rattle.path.specs.Shape.{total}
 use Rattle.call.specs.Tests.{places, drawingLimit}
@@ -29,7 +31,7 @@ use Rattle.session.specs.Calls.{listsFit, builtVerdict, builtLists}
 use Rattle.session.specs.Model.{lengthsOf, longFor, smallPath, modelNext, modelAnswers, modelAfter}
 use Rattle.session.specs.Session.{Turn, after, Linked, answers, afterAll, fed}
 use Rattle.session.specs.Demand.{Holds, Agrees, Demand3}
-use Rattle.session.proofs.Judging.{and-left, and-right, true-false, holds-says, places-say, places-then, accepted-says}
+use Rattle.session.proofs.Judging.{true-false, places-say, places-then}
 use Rattle.session.proofs.Lents.{long-says, fits-same}
 use Rattle.session.proofs.Step.{Fine, number-of, step}
 use Rattle.session.proofs.Spared.{spares-all}

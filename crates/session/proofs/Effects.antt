@@ -10,6 +10,7 @@ use lib.ListN.{length}
 use lib.Ieee.{Float}
 use borrow.Author.Tests.{ltb-true, eqb-false, ne-eqb}
 use Rattle.views.proofs.Laws.{same}
+use Rattle.views.proofs.Bools.{and-left, and-right}
 use Rattle.path.specs.declared.anchor.Anchor.{Anchor}
 use Rattle.path.specs.Shape.{countOf, closedOf, total, wordAt, start, subOf, isSegment, next, hasAnchor}
 use Rattle.path.proofs.Shapes.{total-in, has-says}
@@ -26,7 +27,6 @@ use Rattle.edit.specs.Split.{shifted, splitAnchors, hasSegment}
 use Rattle.session.specs.Edits.{Call, move, setRadius, split, Edit, moved, resized, segmentStart, segmentEnd, splitRadii, splitAt, editOf, placesOf}
 use Rattle.session.specs.Model.{recutCount}
 use Rattle.session.proofs.Shapes.{In, sub-in, sub-is}
-use Rattle.session.proofs.Judging.{and-left, and-right}
 use Rattle.session.proofs.Splits.{like-places, segment-in, anchor-stood, split-stood, split-kept}
 
 -- ---- references that are there

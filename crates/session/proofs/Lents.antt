@@ -11,6 +11,7 @@ use lib.Seq.{getD-append-add, getD-drop}
 use lib.Ieee.{Float, nan}
 use borrow.Author.Tests.{leb-true}
 use Rattle.views.specs.View.{entry, overwrite}
+use Rattle.views.proofs.Bools.{and-left, and-right}
 use Rattle.views.proofs.Laws.{order, length-overwrite, at-overwrite}
 use Rattle.views.proofs.Searches.{all-cong}
 use Rattle.real.specs.Limit.{inLimit}
@@ -25,7 +26,6 @@ use Rattle.cache.specs.Tests.{cacheFits}
 use Rattle.session.specs.Calls.{listsFit, roomIn}
 use Rattle.session.specs.Model.{Lengths, lengthsOf, longFor, smallPath}
 use Rattle.session.specs.Session.{back}
-use Rattle.session.proofs.Judging.{and-left, and-right}
 
 -- ---- lengths
 pub record Long (l : Lengths) (n : ℕ) : Type 0 where

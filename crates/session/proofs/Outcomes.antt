@@ -6,6 +6,7 @@ use lib.Dec.{leb, eqb}
 use lib.ListN.{length}
 use lib.Ieee.{Float}
 use borrow.Author.Tests.{leb-true, le-leb, lt-leb}
+use Rattle.views.proofs.Bools.{and-left, and-right}
 use Rattle.refusal.specs.Order.{passes, holds, accepted, refused, verdict, tests}
 use Rattle.refusal.proofs.Verdicts.{holds-true, holds-false, by-lists, by-arguments, by-reference, by-capacity, by-result, by-output, by-none}
 use Rattle.path.specs.declared.anchor.Anchor.{Anchor}
@@ -20,7 +21,6 @@ use Rattle.session.specs.Drawing.{Lent, drawn}
 use Rattle.session.specs.Edits.{Call, move, setRadius, Edit, moved, resized, editOf}
 use Rattle.session.specs.Calls.{listsFit, writtenGood, recutGood, editLimit, roomIn, editVerdict, editAnswer, editedLists, listsAfter, callVerdict, callAnswer, callLists}
 use Rattle.session.specs.Model.{lengthsOf, longFor, smallPath, recutCount}
-use Rattle.session.proofs.Judging.{and-left, and-right}
 use Rattle.session.proofs.Lents.{fits-same, room-same}
 use Rattle.session.proofs.Counts.{recut-count}
 

@@ -11,6 +11,7 @@ use lib.Seq.{ext-getD, getD-set-same, getD-set-other}
 use lib.Ieee.{Float, nan}
 use borrow.Author.Tests.{leb-true, ltb-true, eq-eqb, ne-eqb}
 use Rattle.views.specs.View.{entry, tabulate, overwrite}
+use Rattle.views.proofs.Bools.{and-left, and-right}
 use Rattle.views.specs.Search.{all}
 use Rattle.views.proofs.Laws.{order, same, length-tabulate, at-tabulate, length-overwrite, at-overwrite, past-overwrite, as-overwrite}
 use Rattle.views.proofs.Searches.{all-cong}
@@ -37,7 +38,6 @@ use Rattle.session.specs.Drawing.{Drawing, cornerKind, viewIn}
 use Rattle.cache.specs.Cache.{cachedNumbers, cachedFlags, cachedIn}
 use Rattle.session.specs.Edits.{Edit, placesOf}
 use Rattle.session.specs.Calls.{recutGood, numbersAfter, flagsAfter}
-use Rattle.session.proofs.Judging.{and-left, and-right}
 use Rattle.session.proofs.Splits.{place-in, Like, like-places}
 
 -- ---- a drawing in lists, seen by subpath: what `cut::recut` is given

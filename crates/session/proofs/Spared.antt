@@ -9,6 +9,7 @@ use Rattle.views.specs.View.{entry}
 use Rattle.views.specs.Search.{count}
 use Rattle.views.proofs.Laws.{at-overwrite, past-overwrite}
 use Rattle.refusal.specs.Order.{Verdict, accepted, refused}
+use Rattle.refusal.proofs.Verdicts.{holds-says, accepted-says}
 use Rattle.path.specs.declared.anchor.Anchor.{Anchor}
 use Rattle.path.specs.Shape.{total}
 use Rattle.session.specs.declared.answers.Edited.the-variants.{Refused, Accepted}
@@ -18,7 +19,6 @@ use Rattle.session.specs.Calls.{roomIn, editAnswer, numbersAfter, flagsA
 use Rattle.session.specs.Model.{lengthsOf}
 use Rattle.session.specs.Session.{Turn}
 use Rattle.session.specs.Demand.{Untouched, Spares, SparesAll}
-use Rattle.session.proofs.Judging.{holds-says, accepted-says}
 use Rattle.session.proofs.Lents.{Long, long-says, room-same}
 use Rattle.session.proofs.Step.{number-after}
 use Rattle.session.proofs.Recutting.{radius-anchors, move-radii}

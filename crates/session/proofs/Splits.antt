@@ -11,6 +11,7 @@ use lib.Seq.{getD-set-same, getD-set-other}
 use lib.Ieee.{Float}
 use borrow.Author.Tests.{ltb-true, le-leb, lt-leb, eqb-true, ne-eqb}
 use Rattle.views.proofs.Laws.{order, same}
+use Rattle.views.proofs.Bools.{and-left, and-right}
 use Rattle.path.specs.declared.anchor.Anchor.{Anchor}
 use Rattle.path.specs.Shape.{countOf, closedOf, total, wordAt, start, subOf, isSegment, next}
 use Rattle.path.proofs.Shapes.{total-in}
@@ -28,7 +29,6 @@ use Rattle.cache.proofs.Reached.{reached-here}
 use Rattle.edit.specs.Split.{shifted, splitAnchors, splitShapes}
 use Rattle.session.specs.Edits.{segmentStart, segmentEnd, splitRadii, splitAt, placesOf}
 use Rattle.session.proofs.Shapes.{In, sub-in, sub-is, sub-before, start-le, start-gt, total-more, count-next, closed-next}
-use Rattle.session.proofs.Judging.{and-left, and-right}
 
 -- ---- the cut at a place of subpath s, and by views that are alike
 pub place-in : (d : Drawing) (k s : ℕ) → In (d .shapes) k s → placesOf d k ≡ placeAt (viewIn d s) (k - start (d .shapes) s)

@@ -9,8 +9,10 @@ use lib.ListN.{length, getD, length-set}
 use lib.Ieee.{Float, nan}
 use borrow.Author.Tests.{leb-true}
 use Rattle.views.specs.View.{entry}
+use Rattle.views.proofs.Bools.{and-right}
 use Rattle.views.specs.Search.{count}
 use Rattle.refusal.specs.Order.{holds, Verdict, accepted, refused}
+use Rattle.refusal.proofs.Verdicts.{holds-says, accepted-says}
 use Rattle.path.specs.Shape.{total}
 use Rattle.path.specs.Flat.{anchorAt, anchorNumbers}
 use Rattle.path.proofs.Limits.{GoodBelow}
@@ -26,7 +28,7 @@ use Rattle.session.specs.Calls.{listsFit, roomIn, editAnswer, numbersAft
 use Rattle.session.specs.Model.{lengthsOf, longFor, smallPath, wholeLimit, modelVerdict, recutCount, modelAnswer, drawingAfter, modelNext}
 use Rattle.session.specs.Session.{Carried, back, returned}
 use Rattle.session.specs.Demand.{Holds}
-use Rattle.session.proofs.Judging.{and-right, holds-says, places-say, places-then, accepted-says}
+use Rattle.session.proofs.Judging.{places-say, places-then}
 use Rattle.session.proofs.Effects.{Faithful, faithful, draw, Alike, places-alike, made-alike, made-places, shapes-same, count-same}
 use Rattle.session.proofs.Counts.{recut-count}
 use Rattle.session.proofs.Lents.{Long, long-says, fits-same, room-same, anchor-same, back-kept, back-long, back-written, back-written-long, back-anchor}

@@ -9,8 +9,10 @@ use lib.Ieee.{Float}
 use borrow.Author.Tests.{leb-true}
 use Rattle.path.proofs.Anchors.{anchor-good}
 use Rattle.views.specs.View.{entry}
+use Rattle.views.proofs.Bools.{and-left, and-right}
 use Rattle.real.specs.Limit.{inLimit}
 use Rattle.refusal.specs.Order.{passes, holds, accepted, verdict}
+use Rattle.refusal.proofs.Verdicts.{holds-says}
 use Rattle.path.specs.declared.anchor.Anchor.{Anchor}
 use Rattle.path.specs.Shape.{total}
 use Rattle.path.specs.Flat.{anchorAt}
@@ -24,7 +26,7 @@ use Rattle.cache.specs.Cache.{cachedIn}
 use Rattle.session.specs.Edits.{Call, Edit, editOf, placesOf}
 use Rattle.session.specs.Calls.{listsFit, writtenGood, recutGood, editLimit, roomIn, editVerdict, callVerdict}
 use Rattle.session.specs.Model.{lengthsOf, longFor, smallPath, drawingIn, wholeLimit, modelVerdict}
-use Rattle.session.proofs.Judging.{and-left, and-right, holds-says, places-say, places-same, verdict-same}
+use Rattle.session.proofs.Judging.{places-say, places-same, verdict-same}
 use Rattle.session.proofs.Effects.{Faithful, faithful, draw, Alike, places-alike, made-alike, made-places, loose-same, known-same, shapes-same}
 use Rattle.session.proofs.Lents.{fits-same, room-same}
 

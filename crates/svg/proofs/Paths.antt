@@ -10,6 +10,7 @@ use borrow.Author.Tests.{eq-eqb, ne-eqb}
 use lib.ListN.{length, take}
 use lib.Seq.{take-suc}
 use lib.IntN.{ℤ}
+use Rattle.views.proofs.Bools.{or-true}
 use Rattle.path.specs.declared.anchor.Anchor.{Anchor}
 use Rattle.path.specs.Shape.{countOf, closedOf, total, wordAt, start}
 use Rattle.svg_grammar.specs.Grammar.{Command, close, begins}
@@ -25,10 +26,6 @@ drawn-line a b e = rw e
 pub drawn-bent : (a b : Anchor) → isStraight a b ≡ false → drawn a b ≡ bent a b
 unfolding drawn
 drawn-bent a b e = rw e
-
-or-true : (b : Bool) → (b || true) ≡ true
-or-true true = refl
-or-true false = refl
 
 module _ (f : ℕ → Anchor) where
   -- ---- a subpath

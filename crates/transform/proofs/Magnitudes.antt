@@ -12,7 +12,7 @@ use lib.Ieee.Fits.{down-pos}
 use lib.Ieee.Order.{round-mono}
 use lib.Ieee.Positive.{through}
 use borrow.Author.Tests.{ltb-true, eqb-true, leb-true, le-leb}
-use Rattle.views.proofs.Searches.{both}
+use Rattle.views.proofs.Bools.{both}
 use Rattle.real.specs.Limit.{inLimit}
 use Rattle.real.specs.StandIns.{abs}
 use Rattle.path.specs.Limit.{withinLimit}

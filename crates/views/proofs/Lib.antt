@@ -1,3 +1,4 @@
+pub mod Bools
 pub mod Laws
 pub mod Searches
 pub mod Runs

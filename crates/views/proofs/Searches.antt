@@ -8,15 +8,12 @@ use native.Mathlib.Omega.{arith}
 use lib.Dec.{eqb}
 use borrow.Author.Tests.{ne-eqb}
 use Rattle.views.specs.Search.{all, firstFalse, count}
+use Rattle.views.proofs.Bools.{and-false, both}
 
 pub all-true : (p : ℕ → Bool) (n : ℕ) → ((k : ℕ) → k < n → p k ≡ true) → all p n ≡ true
 unfolding all
 all-true p zero h = refl
 all-true p (suc n) h = rw (h zero (suc-le-suc zero-le)) (all-true (λ k. p (suc k)) n (λ k l. h (suc k) (suc-le-suc l)))
-
-pub and-false : (b : Bool) → (b && false) ≡ false
-and-false true = refl
-and-false false = refl
 
 pub all-false : (p : ℕ → Bool) (n k : ℕ) → k < n → p k ≡ false → all p n ≡ false
 unfolding all
@@ -25,10 +22,6 @@ all-false p (suc n) zero l e = rw e
 all-false p (suc n) (suc k) l e = rw (all-false (λ j. p (suc j)) n k (le-of-suc-le-suc l) e) (and-false (p zero))
 
 -- what passes on all passes at each
-pub both : (a b : Bool) → (a && b) ≡ true → (a ≡ true) × (b ≡ true)
-both true b e = (refl, e)
-both false b e = absurd (true≢false (sym e))
-
 pub all-says : (p : ℕ → Bool) (n : ℕ) → all p n ≡ true → (k : ℕ) → k < n → p k ≡ true
 unfolding all
 all-says p zero e k l = absurd (not-suc-le-zero l)

@@ -3,7 +3,7 @@ use mathlib.Core.Path.{_≡_, sym, ap, _∙_}
 use mathlib.Core.Bool.{_&&_}
 use borrow.Author.Needs.{needs}
 use borrow.Author.Tests.{not-true, not-false}
-use Rattle.views.proofs.Searches.{and-false}
+use Rattle.views.proofs.Bools.{and-false}
 use Rattle.call.specs.declared.opening.Opened.the-variants.{Anchors}
 use Rattle.cut_calls.specs.CornerKinds.{kindOf, isKnown}
 use Rattle.cached.specs.Opening.{lent, openedCached}
