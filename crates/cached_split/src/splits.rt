@@ -160,6 +160,43 @@ fn split_begun(
             sub,
         );
     }
+    split_whole(
+        shapes,
+        anchors,
+        radii,
+        kind,
+        numbers,
+        flags,
+        s,
+        a,
+        t,
+        n,
+        way,
+    )
+}
+
+// With scratch for the whole drawing.
+fn split_whole(
+    shapes: &mut [u32],
+    anchors: &mut [f64],
+    radii: &mut [f64],
+    kind: u32,
+    numbers: &mut [f64],
+    flags: &mut [u32],
+    s: usize,
+    a: usize,
+    t: f64,
+    n: usize,
+    way: CornerKind,
+) -> Edited
+    requires { ⌜ Begun (lent (now shapes) (now anchors) (now radii) (now numbers) (now flags)) kind s a t n way ⌝ }
+    ensures answer { λ r. ⌜ r ≡ callAnswer (lent (now (shapes .entry)) (now (anchors .entry)) (now (radii .entry)) (now (numbers .entry)) (now (flags .entry))) kind (split s a t) ⌝ }
+    ensures shapes { λ _. ⌜ now (shapes .exit) ≡ callLists (lent (now (shapes .entry)) (now (anchors .entry)) (now (radii .entry)) (now (numbers .entry)) (now (flags .entry))) kind (split s a t) .shapes ⌝ }
+    ensures anchors { λ _. ⌜ now (anchors .exit) ≡ callLists (lent (now (shapes .entry)) (now (anchors .entry)) (now (radii .entry)) (now (numbers .entry)) (now (flags .entry))) kind (split s a t) .anchors ⌝ }
+    ensures radii { λ _. ⌜ now (radii .exit) ≡ callLists (lent (now (shapes .entry)) (now (anchors .entry)) (now (radii .entry)) (now (numbers .entry)) (now (flags .entry))) kind (split s a t) .radii ⌝ }
+    ensures numbers { λ _. ⌜ now (numbers .exit) ≡ callLists (lent (now (shapes .entry)) (now (anchors .entry)) (now (radii .entry)) (now (numbers .entry)) (now (flags .entry))) kind (split s a t) .numbers ⌝ }
+    ensures flags { λ _. ⌜ now (flags .exit) ≡ callLists (lent (now (shapes .entry)) (now (anchors .entry)) (now (radii .entry)) (now (numbers .entry)) (now (flags .entry))) kind (split s a t) .flags ⌝ }
+{
     if n < 32 {
         return split_small(
             shapes,
@@ -337,7 +374,7 @@ fn split_through(
     )
 }
 
-// With the split drawing in `made_anchors` and `made_radii`: recuts in the scratch lists, 9 for the places recut, 8, and writes.
+// With the split drawing in `made_anchors` and `made_radii`: recuts in `made` and `marks`, 9 for the places recut, 8, and writes.
 fn split_made(
     shapes: &mut [u32],
     anchors: &mut [f64],
@@ -353,11 +390,11 @@ fn split_made(
     sub: Sub,
     made_anchors: &[f64],
     made_radii: &[f64],
-    made_numbers: &mut [f64],
-    made_flags: &mut [u32],
+    made: &mut [f64],
+    marks: &mut [u32],
 ) -> Edited
     requires { ⌜ Begun (lent (now shapes) (now anchors) (now radii) (now numbers) (now flags)) kind s a t n way ⌝ }
-    requires { ⌜ (n * 6 + 6 ≤ length (now «made_anchors»)) × (n + 1 ≤ length (now «made_radii»)) × (n * 12 + 12 ≤ length (now «made_numbers»)) × (n + 1 ≤ length (now «made_flags»)) ⌝ }
+    requires { ⌜ (n * 6 + 6 ≤ length (now «made_anchors»)) × (n + 1 ≤ length (now «made_radii»)) × (n * 12 + 12 ≤ length (now made)) × (n + 1 ≤ length (now marks)) ⌝ }
     requires { ⌜ sub ≡ subAt (now shapes) s ⌝ }
     requires { ⌜ putsFound (anchorAt (now anchors)) (segmentStart (now shapes) s a) (segmentEnd (now shapes) s a) t (n + 1) ≡ Nothing ⌝ }
     requires { ⌜ ((j : ℕ) → j < (n + 1) * 6 → entry (now «made_anchors») j ≡ anchorNumbers (splitAnchors (anchorAt (now anchors)) (segmentStart (now shapes) s a) (segmentEnd (now shapes) s a) t) j) ⌝ }
@@ -375,15 +412,7 @@ fn split_made(
     let places = n + 1;
     let more = grown(sub);
     let w = Window { at: at, reach: 4 };
-    let done = recut_cache(
-        made_anchors,
-        made_radii,
-        way,
-        more,
-        w,
-        made_numbers,
-        made_flags,
-    );
+    let done = recut_cache(made_anchors, made_radii, way, more, w, made, marks);
     match done {
         Recut::Bad(k) => Edited::Refused(refusal::RESULT, k),
         Recut::Count(count) => {
@@ -403,8 +432,8 @@ fn split_made(
                 t,
                 more,
                 w,
-                made_numbers,
-                made_flags,
+                made,
+                marks,
             );
             Edited::Accepted(count, places)
         }

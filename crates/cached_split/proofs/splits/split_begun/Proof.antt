@@ -1,4 +1,4 @@
--- `cached_split::splits::split_begun` meets its contract: each way to split does. Assumes nothing.
+-- `cached_split::splits::split_begun` meets its contract: both ways to split do. Assumes nothing.
 use Prim.Native.Nat.{_+_}
 use native.Mathlib.Omega.{arith}
 use borrow.Author.Needs.{needs}
@@ -34,17 +34,11 @@ row-requires c κs =
 returns : tie.Need-returns
 returns c = c .before .before .before .before .before .before .before .before .before .before .split-row .ensures
 
-small-requires : tie.Need-split-small-requires
-small-requires c κs = (c .before .before .before .before .before .before .before .before .before .before .before .before .before .before .pre, omega arith)
+whole-requires : tie.Need-split-whole-requires
+whole-requires c κs = c .before .before .before .before .before .before .before .before .before .before .before .before .before .pre
 
 returns-2 : tie.Need-returns-2
-returns-2 c = c .before .before .before .before .before .before .before .before .before .before .split-small .ensures
-
-large-requires : tie.Need-split-large-requires
-large-requires c κs = c .before .before .before .before .before .before .before .before .before .before .before .before .before .before .pre
-
-returns-3 : tie.Need-returns-3
-returns-3 c = c .before .before .before .before .before .before .before .before .before .before .split-large .ensures
+returns-2 c = c .before .before .before .before .before .before .before .before .before .before .split-whole .ensures
 
 pub split-begun-spec : {M : Type 1} → statement M
 split-begun-spec =
@@ -59,17 +53,10 @@ split-begun-spec =
     (λ c. search needs)
     (λ c. search needs)
     returns
-    small-requires
+    whole-requires
     (λ c. search needs)
     (λ c. search needs)
     (λ c. search needs)
     (λ c. search needs)
     (λ c. search needs)
-    returns-2
-    large-requires
-    (λ c. search needs)
-    (λ c. search needs)
-    (λ c. search needs)
-    (λ c. search needs)
-    (λ c. search needs)
-    returns-3)
+    returns-2)

@@ -163,7 +163,7 @@ returns-3 c =
     let e = c .before .before .before .before .before .before .before .before .before .before .before .before .before .before .before .before .before .before .before .before .before .before .before .before .before .before .before .before .before .before .before .recut-cache .ensures in
     let w = c .before .before .before .before .before .before .before .before .before .before .write-split .ensures in
     let h = split-done (lists o) (a .kind) (a .s) (a .a) (a .t) (a .n) (a .way) (p .0 .ready) (p .0 .segment) (p .0 .few) (p .1 .1 .1 .0) (a .made-anchors .now) (a .made-radii .now) (p .1 .1 .1 .1 .0) (p .1 .1 .1 .1 .1)
-    (a .sub) _ (p .1 .1 .0) (c .before .before .before .before .before .before .before .before .before .before .before .before .before .before .before .before .before .before .before .before .before .before .before .before .before .before .before .before .before .before .before .before .before .before .grown .ensures) _ (e .0) _ (c .before .before .before .before .before .before .before .before .before .before .before .before .before .before .before .before .before .before .before .before .before .before .before .before .before .done2 .given .1) (a .made-numbers .now) _ (p .1 .0 .2) (e .1 .0) (a .made-flags .now) _ (p .1 .0 .3) (e .1 .1) (fits (c .before .before .before .before .before .before .before .before .before .before .before .before .before .before .before .before .before .before))
+    (a .sub) _ (p .1 .1 .0) (c .before .before .before .before .before .before .before .before .before .before .before .before .before .before .before .before .before .before .before .before .before .before .before .before .before .before .before .before .before .before .before .before .before .before .grown .ensures) _ (e .0) _ (c .before .before .before .before .before .before .before .before .before .before .before .before .before .before .before .before .before .before .before .before .before .before .before .before .before .done2 .given .1) (a .made .now) _ (p .1 .0 .2) (e .1 .0) (a .marks .now) _ (p .1 .0 .3) (e .1 .1) (fits (c .before .before .before .before .before .before .before .before .before .before .before .before .before .before .before .before .before .before))
     _ (c .before .before .before .before .before .before .before .before .before .before .before .before .before .before .before .before .before .before .before .before .before .before .before .before .before .before .before .before .before .before .before .before .before .before .before .before .next .ensures) (lent _ _ _ _ _) (w .0) (w .1 .0) (w .1 .1 .0) (w .1 .1 .1 .0) (w .1 .1 .1 .1) in
     (h .0, (h .1, (h .2, (h .3, (h .4, h .5)))))
 
