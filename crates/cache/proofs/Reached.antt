@@ -1,7 +1,7 @@
 -- The places of a path within reach of an index of a subpath: which, how many, and the twelve numbers of a place. Assumes nothing.
 use mathlib.Core.Path.{_≡_, refl, ap, _∙_}
 use mathlib.Core.Bool.{Bool, true, false}
-use Prim.Native.Nat.{ℕ, zero, suc, _+_, _-_, _≤_, _<_, zero-le, suc-le-suc}
+use Prim.Native.Nat.{ℕ, zero, suc, _+_, _-_, _≤_, _<_}
 use native.Mathlib.Nat.{add-zero}
 use native.Mathlib.Numerals.{add-one}
 use native.Mathlib.Omega.{arith}
@@ -10,8 +10,8 @@ use lib.Seq.{getD-append-add}
 use lib.Ieee.{nan}
 use borrow.Author.Tests.{lt-ltb, le-ltb, le-leb, lt-leb}
 use Rattle.views.specs.View.{entry}
-use Rattle.views.specs.Search.{count, firstFalse}
-use Rattle.views.proofs.Searches.{count-more, count-same}
+use Rattle.views.specs.Search.{count}
+use Rattle.views.proofs.Searches.{count-cong, count-none, count-more, count-same}
 use Rattle.path.specs.Flat.{numbers}
 use Rattle.cut.specs.declared.places.Place.{Place}
 use Rattle.cut.specs.View.{View}
@@ -42,23 +42,7 @@ module _ (v : View) (first reach at k : ℕ) where
   unfolding reached
   reached-past l = rw (le-leb first k (omega arith), le-ltb k (first + v .n) l)
 
--- ---- tests that agree find the same place, and as many
-pub first-same : (p q : ℕ → Bool) (n : ℕ) → ((k : ℕ) → k < n → p k ≡ q k) → firstFalse p n ≡ firstFalse q n
-unfolding firstFalse
-first-same p q zero h = refl
-first-same p q (suc n) h = rw (h zero (suc-le-suc zero-le), first-same (λ k. p (suc k)) (λ k. q (suc k)) n (λ k l. h (suc k) (suc-le-suc l)))
-
-pub count-cong : (p q : ℕ → Bool) (n : ℕ) → ((k : ℕ) → k < n → p k ≡ q k) → count p n ≡ count q n
-unfolding count
-count-cong p q zero h = refl
-count-cong p q (suc n) h = rw (h zero (suc-le-suc zero-le), count-cong (λ k. p (suc k)) (λ k. q (suc k)) n (λ k l. h (suc k) (suc-le-suc l)))
-
 -- ---- counts in parts
-count-none : (p : ℕ → Bool) (n : ℕ) → ((k : ℕ) → k < n → p k ≡ false) → count p n ≡ 0
-unfolding count
-count-none p zero h = refl
-count-none p (suc n) h = rw (h zero (suc-le-suc zero-le)) (count-none (λ k. p (suc k)) n (λ k l. h (suc k) (suc-le-suc l)))
-
 count-add : (p : ℕ → Bool) (a b : ℕ) → count p (a + b) ≡ count p a + count (λ i. p (a + i)) b
 count-add p a zero = rw (add-zero, count-none (λ i. p (a + i)) 0 (λ k l. absurd (omega arith)), add-zero)
 count-add p a (suc b) =

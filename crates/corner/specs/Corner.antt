@@ -38,6 +38,19 @@ sideU a prev = sideOf (a .p) (a .«h_in») (prev .«h_out») (prev .p)
 abbrev pub sideV : Anchor → Anchor → Side
 sideV a next = sideOf (a .p) (a .«h_out») (next .«h_in») (next .p)
 
+-- a corner with its sides' lengths in place of hints at them
+unfoldable pub withLengths : ℕ → Corner → Corner
+withLengths chords c = record {
+  found = c .found;
+  at = c .at;
+  u = c .u;
+  v = c .v;
+  lu = lengthOf chords (c .«side_u»);
+  lv = lengthOf chords (c .«side_v»);
+  «side_u» = c .«side_u»;
+  «side_v» = c .«side_v»;
+}
+
 -- both sides are longer than 1e-9 and finite, and they meet at an angle
 unfoldable pub sharp : Corner → Bool
 sharp c = lt CEPS (c .lu) && lt CEPS (c .lv) && isFinite (c .lu) && isFinite (c .lv) && lt 1e-6 (sin c)

@@ -1,6 +1,9 @@
 // `Corner`: where two sides meet at an angle.
 ghost use mathlib.Core.Path.{_≡_};
-ghost use Rattle.corner.specs.Corner.{cornerOf, meet, noCorner, sharp, cos, sin, setback, radiusAtSetback, maxRadius, room, maxRadiusBeside, onBisector, radiusChange};
+ghost use mathlib.Core.Bool.{true};
+ghost use lib.Ieee.{lt};
+ghost use Rattle.cubic.specs.Cubic.{CEPS};
+ghost use Rattle.corner.specs.Corner.{withLengths, cornerOf, meet, noCorner, sharp, cos, sin, setback, radiusAtSetback, maxRadius, room, maxRadiusBeside, onBisector, radiusChange};
 use geom::P;
 use geom::cross;
 use path::Anchor;
@@ -21,9 +24,11 @@ pub struct Corner {
 }
 
 impl Corner {
-    // The corner that anchor a makes between its neighbours.
+    // The corner that anchor a makes between its neighbours, its sides not yet measured: in the place of their lengths are hints at them,
+    // the first above 1e-9.
     pub fn of(a: Anchor, prev: Anchor, next: Anchor) -> Corner
-        ensures { λ r. ⌜ r ≡ cornerOf 128 a prev next ⌝ }
+        ensures corner { λ r. ⌜ withLengths 128 r ≡ cornerOf 128 a prev next ⌝ }
+        ensures found { λ r. ⌜ lt CEPS (r .lu) ≡ r .found ⌝ }
     {
         if a.is_smooth() {
             return Corner::none();
@@ -44,17 +49,19 @@ impl Corner {
         Corner::meet(at, u, v, side_u, side_v, hu.far, hv.far)
     }
 
-    // The corner at which two sides leave in the directions u and v. The hints may be their lengths.
+    // The corner at which two sides leave in the directions u and v, with these hints at their lengths.
     fn meet(at: P, u: P, v: P, side_u: Side, side_v: Side, hint_u: f64, hint_v: f64) -> Corner
-        ensures { λ r. ⌜ r ≡ meet 128 at u v «side_u» «side_v» ⌝ }
+        requires { ⌜ lt CEPS «hint_u» ≡ true ⌝ }
+        ensures corner { λ r. ⌜ withLengths 128 r ≡ meet 128 at u v «side_u» «side_v» ⌝ }
+        ensures found { λ r. ⌜ lt CEPS (r .lu) ≡ r .found ⌝ }
     {
         let c = Corner {
             found: true,
             at: at,
             u: u,
             v: v,
-            lu: side_u.length(hint_u),
-            lv: side_v.length(hint_v),
+            lu: hint_u,
+            lv: hint_v,
             side_u: side_u,
             side_v: side_v,
         };
@@ -66,13 +73,32 @@ impl Corner {
 
     // Whether both sides are longer than 1e-9, and finite, and meet at an angle.
     fn sharp(self) -> bool
-        ensures { λ r. ⌜ r ≡ sharp self ⌝ }
+        ensures { λ r. ⌜ r ≡ sharp (withLengths 128 self) ⌝ }
     {
-        1e-9 < self.lu
-            && 1e-9 < self.lv
-            && real::is_finite(self.lu)
-            && real::is_finite(self.lv)
-            && 1e-6 < self.sin()
+        let side_u = self.side_u;
+        let side_v = self.side_v;
+        1e-6 < self.sin() && side_u.is_long(self.lu) && side_v.is_long(self.lv)
+    }
+
+    // The corner with its sides' lengths.
+    pub fn measured(self) -> Corner
+        ensures { λ r. ⌜ r ≡ withLengths 128 self ⌝ }
+    {
+        let at = self.at;
+        let u = self.u;
+        let v = self.v;
+        let side_u = self.side_u;
+        let side_v = self.side_v;
+        Corner {
+            found: self.found,
+            at: at,
+            u: u,
+            v: v,
+            lu: side_u.length(self.lu),
+            lv: side_v.length(self.lv),
+            side_u: side_u,
+            side_v: side_v,
+        }
     }
 
     // No corner.

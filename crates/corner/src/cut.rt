@@ -1,5 +1,6 @@
 // `Cut`: how a corner is cut.
 ghost use mathlib.Core.Path.{_≡_};
+ghost use Rattle.side.specs.Side.{Serves};
 ghost use Rattle.corner.specs.Cut.{straightSides, crossAhead, tangentHandles, roundHandles, rounded, inverted, handles, cut};
 use crate::corner::Corner;
 use arc::arc_handle;
@@ -41,15 +42,16 @@ pub struct Lengths {
 }
 
 impl Corner {
-    // The cut of this radius: where it meets the sides, and its handles.
-    pub fn cut(self, radius: f64, kind: CornerKind) -> Cut
+    // The cut of this radius: where it meets the sides, by their tables, and its handles.
+    pub fn cut(self, radius: f64, kind: CornerKind, table_u: &[f64; 129], table_v: &[f64; 129]) -> Cut
+        requires { ⌜ Serves 128 (now «table_u») (self .«side_u») × Serves 128 (now «table_v») (self .«side_v») ⌝ }
         ensures { λ r. ⌜ r ≡ cut 128 self radius kind ⌝ }
     {
         let s = self.setback(radius);
         let side_u = self.side_u;
         let side_v = self.side_v;
-        let a = side_u.at_length(s, self.u, self.lu);
-        let b = side_v.at_length(s, self.v, self.lv);
+        let a = side_u.at_length(s, self.u, self.lu, table_u);
+        let b = side_v.at_length(s, self.v, self.lv, table_v);
         let start = a.p;
         let end = b.p;
         let h = self.handles(radius, kind, s, a, b);

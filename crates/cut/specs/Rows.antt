@@ -5,11 +5,12 @@ use mathlib.Core.Bool.{Bool, true, cond}
 use mathlib.Core.List.{List, [], _∷_}
 use lib.ListN.{getD}
 use lib.Seq.{sets}
-use lib.Ieee.{Float}
+use lib.Ieee.{Float, lt}
 use Rattle.views.specs.View.{entry}
 use Rattle.real.specs.Operators.{0f}
 use Rattle.real.specs.StandIns.{max, min}
 use Rattle.geom.specs.Point.{point}
+use Rattle.cubic.specs.Cubic.{CEPS}
 use Rattle.corner.specs.declared.corner.Corner.{Corner}
 use Rattle.corner.specs.declared.cut.Cut.{Cut}
 use Rattle.corner.specs.Corner.{setback, maxRadiusBeside}
@@ -17,20 +18,20 @@ use Rattle.cut.specs.declared.rows.Row.{Row}
 use Rattle.path.specs.Shape.{next}
 use Rattle.cut.specs.View.{View, leaves}
 use Rattle.cut.specs.Near.{near}
-use Rattle.cut.specs.Places.{cornerAt, isCut, cutAt}
+use Rattle.cut.specs.Places.{cornerAt, askedAt, isCut, cutAt}
 
 -- ---- rows in flat lists
 abbrev pub rowAt : List Float → ℕ → Row
 rowAt xs i = record {
   u = point (entry xs (i * 7)) (entry xs (i * 7 + 1));
   v = point (entry xs (i * 7 + 2)) (entry xs (i * 7 + 3));
-  lu = entry xs (i * 7 + 4);
-  lv = entry xs (i * 7 + 5);
+  «hint_u» = entry xs (i * 7 + 4);
+  «hint_v» = entry xs (i * 7 + 5);
   asked = entry xs (i * 7 + 6);
 }
 
 unfoldable pub rowNumbers : Row → List Float
-rowNumbers r = r .u .x ∷ r .u .y ∷ r .v .x ∷ r .v .y ∷ r .lu ∷ r .lv ∷ r .asked ∷ []
+rowNumbers r = r .u .x ∷ r .u .y ∷ r .v .x ∷ r .v .y ∷ r .«hint_u» ∷ r .«hint_v» ∷ r .asked ∷ []
 
 unfoldable pub putRow : List Float → ℕ → Row → List Float
 putRow xs i r = sets xs (i * 7) (rowNumbers r)
@@ -57,10 +58,14 @@ unfoldable pub askedOf : Corner → Float → Float
 askedOf c radius = cond (c .found) (setback c (max radius 0f)) 0f
 
 unfoldable pub rowOf : Corner → Float → Row
-rowOf c radius = record { u = c .u; v = c .v; lu = c .lu; lv = c .lv; asked = askedOf c radius }
+rowOf c radius = record { u = c .u; v = c .v; «hint_u» = c .lu; «hint_v» = c .lv; asked = askedOf c radius }
 
-unfoldable pub rowHeld : View → ℕ → Row
-rowHeld v i = rowOf (cornerAt v i) (v .radius i)
+-- a row of the corner at index i, if there is one; of its hints it is said only that the first tells whether there is
+pub record RowHeld (v : View) (i : ℕ) (r : Row) : Type 0 where
+  pub found : lt CEPS (r .«hint_u») ≡ cornerAt v i .found
+  pub along-u : r .u ≡ cornerAt v i .u
+  pub along-v : r .v ≡ cornerAt v i .v
+  pub asked : r .asked ≡ askedAt v i
 
 unfoldable pub fittedOf : Corner → Float → Float → Float → Float
 fittedOf c radius before after = cond (c .found) (min (max radius 0f) (maxRadiusBeside c before after)) 0f
@@ -71,7 +76,7 @@ flagOf b = cond b 2147483648 0
 
 -- the rows of the corners within k steps of `at`
 pub record HoldsRows (v : View) (k at : ℕ) (rows : List Float) : Type 0 where
-  pub row : (i : ℕ) → i < v .n → near k (v .n) (v .closed) at i ≡ true → rowAt rows i ≡ rowHeld v i
+  pub row : (i : ℕ) → i < v .n → near k (v .n) (v .closed) at i ≡ true → RowHeld v i (rowAt rows i)
 
 -- the marks there, and the rows of the cuts
 pub record HoldsCuts (v : View) (k at : ℕ) (cuts : List Float) (marks : List ℕ) : Type 0 where

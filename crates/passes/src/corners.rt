@@ -9,7 +9,8 @@ ghost use Rattle.path.specs.Flat.{anchorAt};
 ghost use Rattle.corner.specs.declared.cut.CornerKind.{CornerKind};
 ghost use Rattle.cut.specs.Subpath.{Fits, Inside, viewOf};
 ghost use Rattle.cut.specs.Places.{cornerAt};
-ghost use Rattle.cut.specs.Rows.{askedOf, rowOf, rowHeld, HoldsRows};
+ghost use Rattle.side.specs.Side.{Serves};
+ghost use Rattle.cut.specs.Rows.{askedOf, rowOf, RowHeld, HoldsRows};
 use corner::Corner;
 use cut::Row;
 use cut::Sub;
@@ -39,8 +40,8 @@ fn row_of(c: Corner, radius: f64) -> Row
     Row {
         u: u,
         v: v,
-        lu: c.lu,
-        lv: c.lv,
+        hint_u: c.lu,
+        hint_v: c.lv,
         asked: asked(c, radius),
     }
 }
@@ -62,12 +63,21 @@ pub fn find_corners(anchors: &[f64], radii: &[f64], sub: Sub, w: Window, rows: &
     }
 }
 
-// The corner whose row this is, at index i.
-pub fn corner_of_row(anchors: &[f64], sub: Sub, i: usize, r: Row) -> Corner
-    requires { ⌜ Fits sub (length (now anchors)) × (i < sub .n) ⌝ }
-    ensures { λ c. ⌜ ((radius : ℕ → Float) (kind : ℕ → CornerKind) → let v = viewOf (anchorAt (now (anchors .entry))) radius kind 128 sub in r ≡ rowHeld v i → c ≡ cornerAt v i) ⌝ }
+// The corner whose row this is, at index i, and the tables of its sides.
+pub fn corner_of_row(
+    anchors: &[f64],
+    sub: Sub,
+    i: usize,
+    r: Row,
+    table_u: &mut [f64],
+    table_v: &mut [f64],
+) -> Corner
+    requires { ⌜ Fits sub (length (now anchors)) × (i < sub .n) × (length (now «table_u») ≡ 129) × (length (now «table_v») ≡ 129) ⌝ }
+    ensures corner { λ c. ⌜ ((radius : ℕ → Float) (kind : ℕ → CornerKind) → let v = viewOf (anchorAt (now (anchors .entry))) radius kind 128 sub in RowHeld v i r → c ≡ cornerAt v i) ⌝ }
+    ensures table_u { λ c. ⌜ Serves 128 (now («table_u» .exit)) (c .«side_u») ⌝ }
+    ensures table_v { λ c. ⌜ Serves 128 (now («table_v» .exit)) (c .«side_v») ⌝ }
 {
-    if !(1e-9 < r.lu) {
+    if !(1e-9 < r.hint_u) {
         return Corner::none();
     }
     let a = path::anchor_at(anchors, sub.first + i);
@@ -76,14 +86,16 @@ pub fn corner_of_row(anchors: &[f64], sub: Sub, i: usize, r: Row) -> Corner
     let at = a.p;
     let u = r.u;
     let v = r.v;
+    let side_u = Side::of(at, a.h_in, prev.h_out, prev.p);
+    let side_v = Side::of(at, a.h_out, next.h_in, next.p);
     Corner {
         found: true,
         at: at,
         u: u,
         v: v,
-        lu: r.lu,
-        lv: r.lv,
-        side_u: Side::of(at, a.h_in, prev.h_out, prev.p),
-        side_v: Side::of(at, a.h_out, next.h_in, next.p),
+        lu: side_u.measure(r.hint_u, table_u),
+        lv: side_v.measure(r.hint_v, table_v),
+        side_u: side_u,
+        side_v: side_v,
     }
 }

@@ -56,6 +56,8 @@ pub fn make_cuts(
     ensures marks_kept { λ _. ⌜ length (now (marks .exit)) ≡ length (now (marks .entry)) ⌝ }
     ensures cuts { λ _. ⌜ HoldsCuts (viewOf (anchorAt (now (anchors .entry))) (entry (now (radii .entry))) (λ k. kind) 128 sub) (w .reach + 1) (w .at) (now (cuts .exit)) (now (marks .exit)) ⌝ }
 {
+    let mut table_u = [0.0f64; 129];
+    let mut table_v = [0.0f64; 129];
     let first = sub.first;
     let n = sub.n;
     let there = span(w.reach + 1, n, sub.closed, w.at);
@@ -63,13 +65,13 @@ pub fn make_cuts(
         if !near(w.reach + 1, n, sub.closed, w.at, i) {
             continue;
         }
-        let c = corner_of_row(anchors, sub, i, row_at(rows, i));
+        let c = corner_of_row(anchors, sub, i, row_at(rows, i), &mut table_u, &mut table_v);
         let r = fitted_beside(c, radii[first + i], rows, n, i);
         if !(1e-9 < r) {
             marks[i] = 0;
             continue;
         }
-        put_cut_row(cuts, i, c.cut(r, kind));
+        put_cut_row(cuts, i, c.cut(r, kind, &table_u, &table_v));
         marks[i] = 2147483648;
     }
 }

@@ -12,7 +12,7 @@ use Rattle.views.specs.View.{entry}
 use Rattle.views.proofs.Bools.{both}
 use Rattle.views.specs.Search.{all}
 use Rattle.views.proofs.Laws.{at-tabulate, tabulate-cong}
-use Rattle.views.proofs.Searches.{all-cong}
+use Rattle.views.proofs.Searches.{all-cong, first-cong}
 use Rattle.real.specs.Limit.{inLimit}
 use Rattle.path.specs.declared.limit.Found.{Found}
 use Rattle.path.specs.declared.limit.Found.the-variants.{At, Nothing}
@@ -28,14 +28,13 @@ use Rattle.cut.specs.Places.{isCut, placeAt, placeNumbers}
 use Rattle.cut.specs.Rows.{flagOf}
 use Rattle.cut.specs.Recut.{reached, recutNumbers, recutFlags}
 use Rattle.cache.specs.Tests.{twelveIn}
-use Rattle.cache.proofs.Reached.{first-same}
 use Rattle.recutting.specs.declared.recutting.Recut.the-variants.{Bad, Count}
 use Rattle.recutting.specs.Near.{reachedIn, nearIn, nearNumbers, nearFlags, goodNear, recutFound, recutAnswer, recutAnswerOf, unlessFound, recutNumbersLeft, recutFlagsLeft}
 
 -- ---- tests that agree find the same place
 pub found-same : (p q : ℕ → Bool) (n : ℕ) → ((k : ℕ) → k < n → p k ≡ q k) → firstBad p n ≡ firstBad q n
 unfolding firstBad
-found-same p q n h = rw (first-same p q n h)
+found-same p q n h = rw (first-cong p q n h)
 
 module _ (anchors radii : List Float) (kind : CornerKind) (sub : Sub) (w : Window) where
   abbrev v : View

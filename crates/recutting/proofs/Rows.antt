@@ -13,6 +13,7 @@ use Rattle.views.specs.View.{entry}
 use Rattle.views.proofs.Bools.{both}
 use Rattle.views.specs.Search.{all}
 use Rattle.views.proofs.Laws.{order, length-tabulate, at-tabulate}
+use Rattle.views.proofs.Searches.{count-cong}
 use Rattle.real.specs.Limit.{inLimit}
 use Rattle.path.specs.declared.limit.Found.the-variants.{At, Nothing}
 use Rattle.path.specs.Flat.{anchorAt}
@@ -28,7 +29,7 @@ use Rattle.cut.specs.Rows.{flagOf}
 use Rattle.cut.specs.Recut.{reached, recutNumbers, recutFlags}
 use Rattle.cut.proofs.Steps.{near-cases, near-in}
 use Rattle.cut.proofs.RowLocality.{Row, row-locality, row-cut}
-use Rattle.cache.proofs.Reached.{count-cong, reached-count}
+use Rattle.cache.proofs.Reached.{reached-count}
 use Rattle.recutting.specs.declared.recutting.Recut.the-variants.{Bad, Count}
 use Rattle.recutting.specs.Near.{reachedIn, goodNear, recutFound, recutAnswer, recutAnswerOf, recutNumbersLeft, recutFlagsLeft}
 use Rattle.recutting.specs.Row.{Middle, rowFrom, rowSub, rowWindow}

@@ -3,12 +3,12 @@ use mathlib.Core.Path.{_≡_, refl, sym, _∙_}
 use mathlib.Core.Bool.{Bool, true, false, _&&_}
 use Prim.Native.Nat.{ℕ, _<_}
 use native.Mathlib.Omega.{arith}
+use Rattle.views.proofs.Searches.{first-cong}
 use Rattle.refusal.specs.Order.{Test, passes, fails, holds, judge, firstFailing, Verdict, accepted, refused, verdict, tests}
 use Rattle.refusal.proofs.Verdicts.{failing}
 use Rattle.path.proofs.Limits.{GoodBelow, search-to}
 use Rattle.call.specs.Tests.{places}
 use Rattle.call.proofs.Openings.{places-fail, places-pass}
-use Rattle.cache.proofs.Reached.{first-same}
 use mathlib.Core.Logic.{⊎-elim}
 
 -- ---- Booleans
@@ -25,7 +25,7 @@ module _ (good : ℕ → Bool) (n : ℕ) (after : Test) (h : places good n after
 
 pub places-same : (p q : ℕ → Bool) (n : ℕ) (a b : Test) → ((k : ℕ) → k < n → p k ≡ q k) → a ≡ b → places p n a ≡ places q n b
 unfolding places
-places-same p q n a b h e = rw (first-same p q n h, e)
+places-same p q n a b h e = rw (first-cong p q n h, e)
 
 -- ---- six tests
 judge-same : (t u : Test) (c : ℕ) (v w : Verdict) → t ≡ u → (t ≡ passes → v ≡ w) → judge t c v ≡ judge u c w

@@ -10,6 +10,7 @@ use lib.ListN.{length}
 use Rattle.views.specs.View.{entry, tabulate}
 use Rattle.views.specs.Search.{count}
 use Rattle.views.proofs.Laws.{tabulate-cong}
+use Rattle.views.proofs.Searches.{count-cong}
 use Rattle.path.specs.Shape.{countOf, closedOf, total, wordAt, start, subOf}
 use Rattle.path.specs.Flat.{anchorAt, numbers}
 use Rattle.cut.specs.Subpath.{viewOf}
@@ -20,7 +21,7 @@ use Rattle.cut.proofs.Outlines.{assembled-same, place-cut}
 use Rattle.assembly.specs.Assembled.{placeRead, subpathOutline, outlineUpTo, outlineOf, outlineShapes, outlineWords}
 use Rattle.assembly.proofs.Outlined.{outline-same, shapes-same, outline-length}
 use Rattle.cut_calls.specs.PlainCut.{subAt, cutUpTo, cutShape}
-use Rattle.cache.proofs.Reached.{start-number, end-number, count-cong}
+use Rattle.cache.proofs.Reached.{start-number, end-number}
 use Rattle.session.specs.Drawing.{Drawing, Lent, viewIn}
 use Rattle.cache.specs.Cache.{placeOfPath}
 use Rattle.cache.specs.Calls.{heldOutline}

@@ -1,6 +1,7 @@
 -- Sides of a corner, after 000's `Side`. 000's 128 chords are a parameter, `chords`. Assumes nothing.
 use Prim.Native.Nat.{ℕ, _+_, _-_}
-use mathlib.Core.Bool.{Bool, _&&_, cond}
+use mathlib.Core.Path.{_≡_}
+use mathlib.Core.Bool.{Bool, false, _&&_, cond}
 use mathlib.Core.List.{List}
 use lib.Dec.{ltb}
 use lib.Ieee.{Float, lt, le}
@@ -8,6 +9,7 @@ use Rattle.views.specs.View.{tabulate}
 use Rattle.views.specs.Search.{count}
 use Rattle.real.specs.Operators.{_⊕_, _⊖_, _⊘_, float, 0f, 1f}
 use Rattle.real.specs.StandIns.{clamp}
+use Rattle.real.specs.Finite.{isFinite}
 use Rattle.real.specs.Sums.{running}
 use Rattle.geom.specs.declared.point.P.{P}
 use Rattle.geom.specs.Point.{plus, minus, times, len, dist}
@@ -49,6 +51,17 @@ arclenTable c n = tabulate (n + 1) (running (chord c n))
 -- `length`: the ends' distance on a straight side, else the sum of all chords
 unfoldable pub lengthOf : ℕ → Side → Float
 lengthOf chords o = cond (isStraightSide (o .c)) (dist (pt (o .c) 0) (pt (o .c) 3)) (running (chord (o .c) chords) chords)
+
+-- what a corner asks of a side's length: more than 1e-9, and finite
+unfoldable pub longEnough : Float → Bool
+longEnough l = lt CEPS l && isFinite l
+
+unfoldable pub isLong : ℕ → Side → Bool
+isLong chords o = longEnough (lengthOf chords o)
+
+-- a table that serves a side: on a curve, that of its sums
+unfoldable pub Serves : ℕ → List Float → Side → Type 0
+Serves chords table o = isStraightSide (o .c) ≡ false → table ≡ arclenTable (o .c) chords
 
 -- the chord, of n and counted from 1, that follows so many sums below s
 unfoldable pub chordOf : ℕ → ℕ → ℕ

@@ -1,13 +1,16 @@
 // Lengths along a curve, by a running sum of its 128 chords.
 ghost use mathlib.Core.Path.{_≡_};
-ghost use Prim.Native.Nat.{_+_};
+ghost use mathlib.Core.Bool.{true};
+ghost use mathlib.Core.List.{List};
 ghost use lib.ListN.{length};
 ghost use lib.Ieee.{lt};
-ghost use Rattle.views.specs.View.{entry, overwrite};
+ghost use Rattle.views.specs.View.{entry};
 ghost use Rattle.views.specs.Search.{firstFalse};
 ghost use Rattle.real.specs.Sums.{running};
+ghost use Rattle.geom.specs.declared.point.P.{P};
+ghost use Rattle.cubic.specs.Limits.{curveIn};
 ghost use Rattle.cubic.specs.Sample.{chord};
-ghost use Rattle.side.specs.Side.{chordOf, chordAt, share, paramAt, atCurve};
+ghost use Rattle.side.specs.Side.{longEnough, arclenTable, chordOf, chordAt, share, paramAt, atCurve};
 use crate::side::At;
 use crate::side::unit;
 use geom::P;
@@ -28,34 +31,46 @@ pub fn curve_length(c: [P; 4]) -> f64
     sum
 }
 
-// The parameter at which the curve's chords add up to s: the table of sums is searched for the first not below s.
-pub fn param_at(c: [P; 4], s: f64) -> f64
-    ensures { λ r. ⌜ r ≡ paramAt (chord c 128) 128 s (chordAt (chord c 128) 128 s) ⌝ }
+// Whether the chords of a curve in limit add up to more than 1e-9: no sum is below the one before it, so the first above 1e-9 tells.
+pub fn is_long_curve(c: [P; 4]) -> bool
+    requires { ⌜ curveIn c ≡ true ⌝ }
+    ensures { λ r. ⌜ r ≡ longEnough (running (chord c 128) 128) ⌝ }
 {
-    let mut table = [0.0f64; 129];
-    sums_to(c, s, &mut table);
-    let k = chord_of(first_not_below(&table, s));
-    ((k - 1) as f64 + share(table[k - 1], table[k], s)) / CHORDS as f64
-}
-
-// The sums of the first 0, 1, .. chords, up to the end of the chord in which s falls. Later sums are not needed: no sum is below
-// the one before it, so the search ends there at the latest, and `share` takes the sums at the ends of that chord.
-fn sums_to(c: [P; 4], s: f64, table: &mut [f64])
-    requires { ⌜ length (now table) ≡ 129 ⌝ }
-    ensures { λ _. ⌜ now (table .exit) ≡ overwrite (chordAt (chord c 128) 128 s + 1) (running (chord c 128)) (now (table .entry)) ⌝ }
-{
-    let mut len = 0.0;
-    table[0] = len;
+    let mut sum = 0.0;
     let mut p = cubic::step_at(c, CHORDS, 0);
     for k in 0..CHORDS {
         let q = cubic::step_at(c, CHORDS, k + 1);
-        len = len + p.dist(q);
-        table[k + 1] = len;
-        if !(len < s) {
-            return;
+        sum = sum + p.dist(q);
+        if 1e-9 < sum {
+            return true;
         }
         p = q;
     }
+    false
+}
+
+// The sums of the first 0, 1, .. 128 chords, the last of which is the curve's length.
+pub fn arclen_table(c: [P; 4], table: &mut [f64])
+    requires { ⌜ length (now table) ≡ 129 ⌝ }
+    ensures { λ _. ⌜ now (table .exit) ≡ arclenTable c 128 ⌝ }
+{
+    let mut sum = 0.0;
+    table[0] = sum;
+    let mut p = cubic::step_at(c, CHORDS, 0);
+    for k in 0..CHORDS {
+        let q = cubic::step_at(c, CHORDS, k + 1);
+        sum = sum + p.dist(q);
+        table[k + 1] = sum;
+        p = q;
+    }
+}
+
+// The parameter at which a curve's chords add up to s: its table is searched for the first sum not below s.
+fn param_at(table: &[f64; 129], s: f64) -> f64
+    ensures { λ r. ⌜ ((c : List P) → now (table .entry) ≡ arclenTable c 128 → r ≡ paramAt (chord c 128) 128 s (chordAt (chord c 128) 128 s)) ⌝ }
+{
+    let k = chord_of(first_not_below(table, s));
+    ((k - 1) as f64 + share(table[k - 1], table[k], s)) / CHORDS as f64
 }
 
 // The first entry that is not below s, or 129.
@@ -93,11 +108,12 @@ fn share(l0: f64, l1: f64, s: f64) -> f64
     real::clamp(f, 0.0, 1.0)
 }
 
-// The place s along a curve; u stands in for the direction where the curve has none there.
-pub fn at_curve(c: [P; 4], s: f64, u: P) -> At
+// The place s along a curve, by its table; u stands in for the direction where the curve has none there.
+pub fn at_curve(c: [P; 4], s: f64, u: P, table: &[f64; 129]) -> At
+    requires { ⌜ now table ≡ arclenTable c 128 ⌝ }
     ensures { λ r. ⌜ r ≡ atCurve 128 c s u ⌝ }
 {
-    let t = param_at(c, s);
+    let t = param_at(table, s);
     let p = cubic::cubic_at(c, t);
     let d = cubic::deriv_at(c, t);
     if path::beyond(d) {

@@ -34,6 +34,12 @@ unfolding all
 all-cong p q zero h = refl
 all-cong p q (suc n) h = rw (h zero (suc-le-suc zero-le), all-cong (λ k. p (suc k)) (λ k. q (suc k)) n (λ k l. h (suc k) (suc-le-suc l)))
 
+-- and find the same place
+pub first-cong : (p q : ℕ → Bool) (n : ℕ) → ((k : ℕ) → k < n → p k ≡ q k) → firstFalse p n ≡ firstFalse q n
+unfolding firstFalse
+first-cong p q zero h = refl
+first-cong p q (suc n) h = rw (h zero (suc-le-suc zero-le), first-cong (λ k. p (suc k)) (λ k. q (suc k)) n (λ k l. h (suc k) (suc-le-suc l)))
+
 pub first-all : (p : ℕ → Bool) (n : ℕ) → ((k : ℕ) → k < n → p k ≡ true) → firstFalse p n ≡ n
 unfolding firstFalse
 first-all p zero h = refl
@@ -46,8 +52,14 @@ first-at p (suc n) zero l h e = rw e
 first-at p (suc n) (suc k) l h e =
     rw (h zero (suc-le-suc zero-le), first-at (λ j. p (suc j)) n k (le-of-suc-le-suc l) (λ j m. h (suc j) (suc-le-suc m)) e)
 
+-- and as many
+pub count-cong : (p q : ℕ → Bool) (n : ℕ) → ((k : ℕ) → k < n → p k ≡ q k) → count p n ≡ count q n
+unfolding count
+count-cong p q zero h = refl
+count-cong p q (suc n) h = rw (h zero (suc-le-suc zero-le), count-cong (λ k. p (suc k)) (λ k. q (suc k)) n (λ k l. h (suc k) (suc-le-suc l)))
+
 -- ---- where no place passes after one that does not, the first that does not is the count of those that do
-count-none : (p : ℕ → Bool) (n : ℕ) → ((k : ℕ) → k < n → p k ≡ false) → count p n ≡ 0
+pub count-none : (p : ℕ → Bool) (n : ℕ) → ((k : ℕ) → k < n → p k ≡ false) → count p n ≡ 0
 unfolding count
 count-none p zero h = refl
 count-none p (suc n) h = rw (h zero (suc-le-suc zero-le)) (count-none (λ k. p (suc k)) n (λ k l. h (suc k) (suc-le-suc l)))

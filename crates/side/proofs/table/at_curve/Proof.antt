@@ -8,13 +8,15 @@ unfolding atCurve
 returns c =
     let t = c .before in
     let d = t .before .before in
-    rw (c .unit .ensures, ← d .before .before .param-at .ensures, ← d .before .cubic-at .ensures, ← d .deriv-at .ensures, ← t .before .beyond .ensures, t .if1 .taken)
+    let s = d .before .before .before in
+    rw (c .unit .ensures, ← d .before .before .param-at .ensures (s .args .c) (s .pre), ← d .before .cubic-at .ensures, ← d .deriv-at .ensures, ← t .before .beyond .ensures, t .if1 .taken)
 
 returns-2 : tie.Need-returns-2
 unfolding atCurve
 returns-2 c =
     let d = c .before .before in
-    rw (← d .before .before .param-at .ensures, ← d .before .cubic-at .ensures, ← d .deriv-at .ensures, ← c .before .beyond .ensures, c .if1 .left)
+    let s = d .before .before .before in
+    rw (← d .before .before .param-at .ensures (s .args .c) (s .pre), ← d .before .cubic-at .ensures, ← d .deriv-at .ensures, ← c .before .beyond .ensures, c .if1 .left)
 
 pub at-curve-spec : {M : Type 1} → statement M
 at-curve-spec =

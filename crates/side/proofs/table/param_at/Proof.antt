@@ -1,41 +1,33 @@
--- `side::table::param_at` meets its contract: the table has every sum that is read. Assumes nothing.
-use mathlib.Core.Path.{_≡_, refl, ap, _∙_}
+-- `side::table::param_at` meets its contract: the search finds the chord in which s falls. Assumes nothing.
+use mathlib.Core.Path.{_≡_, ap, _∙_}
 use mathlib.Core.List.{List}
-use Prim.Native.Nat.{ℕ, _-_, _^_, _≤_, _<_}
+use Prim.Native.Nat.{ℕ, _-_, _^_, _≤_}
 use native.Mathlib.Omega.{arith}
 use lib.Dec.{le→leb}
-use lib.Ieee.{Float, nan, inFloat}
+use lib.Ieee.{inFloat, lt}
 use borrow.Author.Needs.{needs}
 use Rattle.views.specs.View.{entry}
-use Rattle.views.proofs.Laws.{at-overwrite}
-use Rattle.real.specs.Sums.{running}
+use Rattle.views.specs.Search.{firstFalse}
+use Rattle.geom.specs.declared.point.P.{P}
 use Rattle.cubic.specs.Sample.{chord}
-use Rattle.side.specs.Side.{chordOf, chordAt, paramAt}
-use Rattle.side.proofs.Lengths.{chord-within, chord-at-most, chord-found}
+use Rattle.side.specs.Side.{arclenTable, chordOf, chordAt, paramAt}
+use Rattle.side.proofs.Lengths.{table-at, chord-within, chord-found}
 use Rattle.side.proofs.table.param_at.Statement.{statement}
 use Rattle.side.proofs.table.param_at.Tie as tie
 
--- the table when it is filled
-abbrev table : tie.After-sums-to → List Float
-table c = c .sums-to .last .1 .1 .0
-
-filled : (c : tie.After-sums-to) → let a = c .before .before .args in
-    (i : ℕ) → i ≤ chordAt (chord (a .c) 128) 128 (a .s) → entry (table c) i ≡ running (chord (a .c) 128) i
-filled c i l =
-    let a = c .before .before .args in
-    let inside : i < 129 = omega (arith, chord-at-most (chord (a .c) 128) 128 (a .s) (omega arith)) in
-    ap (λ l. entry l i) (c .sums-to .ensures) ∙ at-overwrite nan _ (running _) _ i (omega arith) inside
-
 module _ (c : tie.After-chord-of) where
-  abbrev sums : tie.After-sums-to
-  sums = c .before .before .before .before
+  abbrev start : tie.Start
+  start = c .before .before
 
   -- the chord in which s falls
   within : (1 ≤ c .chord-of .result) × (c .chord-of .result ≤ 128)
   within = rw (c .chord-of .ensures) (chord-within 128 _ (omega arith))
 
-  found : let a = sums .before .before .args in c .chord-of .result ≡ chordAt (chord (a .c) 128) 128 (a .s)
-  found = c .chord-of .ensures ∙ ap (chordOf 128) (c .before .first-not-below .ensures) ∙ chord-found _ 128 _ (table sums) (filled sums)
+  found : (curve : List P) → start .args .table .now ≡ arclenTable curve 128 → c .chord-of .result ≡ chordAt (chord curve 128) 128 (start .args .s)
+  found curve is =
+      c .chord-of .ensures
+      ∙ ap (chordOf 128) (c .before .first-not-below .ensures ∙ ap (λ l. firstFalse (λ k. lt (entry l k) (start .args .s)) 129) is)
+      ∙ chord-found curve 128 (start .args .s)
 
 whole : tie.Need-int-to-float-result
 unfolding inFloat
@@ -47,17 +39,16 @@ whole-2 c = le→leb 128 (2 ^ 53) (omega arith)
 
 returns : tie.Need-returns
 unfolding paramAt
-returns c =
-    let k = c .before .before in
+returns c curve is =
+    let k = c .before .before .before .before in
     let r = k .chord-of .result in
-    rw (← found k, c .share .ensures, filled (sums k) (r - 1) (omega (arith, found k)), filled (sums k) r (omega (arith, found k)))
+    let w = within k in
+    rw (← found k curve is, c .share .ensures, is, table-at curve 128 (r - 1) (omega arith), table-at curve 128 r (w .1))
 
 pub param-at-spec : {M : Type 1} → statement M
 param-at-spec =
     tie.close
     (tie.spec
-    (λ c. search needs)
-    (λ c κs. refl)
     (λ c κs. tt)
     (λ c κs. tt)
     (λ c. within c .0)
@@ -65,8 +56,8 @@ param-at-spec =
     (λ c. within (c .before) .0)
     (λ c. omega (arith, within (c .before)))
     (λ c. omega (arith, within (c .before)))
-    (λ c. omega (arith, within (c .before)))
-    (λ c. omega (arith, within (c .before)))
+    (λ c. omega (arith, within (c .before .before)))
+    (λ c. omega (arith, within (c .before .before)))
     (λ c κs. tt)
     whole-2
     returns)

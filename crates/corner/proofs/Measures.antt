@@ -1,0 +1,39 @@
+-- Corners before and after their sides are measured. Assumes nothing.
+use mathlib.Core.Path.{_≡_, refl, sym}
+use mathlib.Core.Bool.{Bool, true, false, _&&_}
+use Prim.Native.Nat.{ℕ}
+use lib.Ieee.{lt, le, sub, add, sum, mul, neg, ofBits}
+use Rattle.root.specs.Root.{rootOf}
+use Rattle.views.proofs.Bools.{and-false}
+use Rattle.geom.specs.Point.{minus, len, dist}
+use Rattle.cubic.specs.Cubic.{CEPS}
+use Rattle.side.specs.Side.{isStraightSide, lengthOf, longEnough, isLong}
+use Rattle.corner.specs.declared.corner.Corner.{Corner}
+use Rattle.corner.specs.Corner.{1e-6, sin, withLengths, noCorner, sharp}
+
+-- no corner has sides of length 0
+pub none-measured : (chords : ℕ) → withLengths chords noCorner ≡ noCorner
+unfolding withLengths lengthOf isStraightSide dist len minus rootOf
+none-measured chords = refl
+
+-- and no hint
+pub none-short : lt CEPS (noCorner .lu) ≡ false
+none-short = refl
+
+-- what `of` and `corner_at` ensure where there is no corner
+pub nothing : (r k : Corner) → r ≡ noCorner → k ≡ noCorner → (withLengths 128 r ≡ k) × (lt CEPS (r .lu) ≡ r .found)
+nothing r k e f = (rw (e, f) (none-measured 128), rw e none-short)
+
+-- the tests of a corner, side by side
+regroup : (s a b c d : Bool) → (s && (a && c) && (b && d)) ≡ (a && b && c && d && s)
+regroup false a b c d = sym (and-false (a && b && c && d))
+regroup true false b c d = refl
+regroup true true false false d = refl
+regroup true true false true d = refl
+regroup true true true false d = refl
+regroup true true true true false = refl
+regroup true true true true true = refl
+
+pub sharp-sides : (chords : ℕ) (k : Corner) → (lt 1e-6 (sin k) && isLong chords (k .«side_u») && isLong chords (k .«side_v»)) ≡ sharp (withLengths chords k)
+unfolding isLong longEnough sharp withLengths sin
+sharp-sides chords k = regroup _ _ _ _ _
