@@ -1,4 +1,5 @@
 pub mod Limits
+pub mod Magnitudes
 pub mod Orders
 pub mod Signs
 pub mod Sums

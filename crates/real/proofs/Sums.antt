@@ -63,7 +63,7 @@ le→fractions : (m : ℕ) (e : ℤ) (n : ℕ) (d : ℤ) → T (le (fin false m 
 unfolding le
 le→fractions m e n d h = at-most (m * up e * down d) (n * up d * down e) h
 
-fractions→le : (m : ℕ) (e : ℤ) (n : ℕ) (d : ℤ) → m * up e * down d ≤ n * up d * down e → T (le (fin false m e) (fin false n d))
+pub fractions→le : (m : ℕ) (e : ℤ) (n : ℕ) (d : ℤ) → m * up e * down d ≤ n * up d * down e → T (le (fin false m e) (fin false n d))
 fractions→le m e n d h = le-of-values (fin false m e) (fin false n d) (m * up e) (down e) (n * up d) (down d) (down-pos e) (down-pos d) (refl, refl) (refl, refl) h
 
 pub le-trans-nonneg : (x y z : Float) → T (nonneg x) → T (nonneg y) → T (nonneg z) → T (le x y) → T (le y z) → T (le x z)
