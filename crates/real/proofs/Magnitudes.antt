@@ -16,6 +16,7 @@ use borrow.Author.Tests.{leb-true, le-leb}
 use Rattle.root.specs.Root.{rootOf}
 use Rattle.root.specs.Sign.{nonneg}
 use Rattle.root.proofs.Theorems.{root-nonneg, root-mono}
+use Rattle.real.specs.Finite.{isFinite}
 use Rattle.real.specs.Limit.{inLimit}
 use Rattle.real.specs.StandIns.{abs}
 use Rattle.real.proofs.Orders.{at-most}
@@ -50,7 +51,7 @@ cleared f q k = go (ltb (q * 2 ^ k) (2 ^ (low f + suc (emax f)))) q
     go true (suc q) h = record { n = _; d = _; is = refl }
     go false q h = absurd h
 
-round-under : (f : Format) (s : Bool) (a b c d : ℕ) → 0 < b → 0 < d → a * d ≤ c * b → T (finite (round f false c d)) → Under (round f s a b) (round f false c d)
+pub round-under : (f : Format) (s : Bool) (a b c d : ℕ) → 0 < b → 0 < d → a * d ≤ c * b → T (finite (round f false c d)) → Under (round f s a b) (round f false c d)
 unfolding round
 round-under f s a b c d B D h t =
     let w = cleared f _ _ t in
@@ -132,6 +133,10 @@ root-under (under false m e n d h) p w =
 -- ---- what is finite: all that is of such a magnitude, and what makes something finite
 pub under-finite : {x b : Float} → Under x b → T (finite x)
 under-finite (under s m e n d h) = tt
+
+pub is-finite : {x b : Float} → Under x b → isFinite x ≡ true
+unfolding isFinite
+is-finite (under s m e n d h) = refl
 
 pub finite-sum : (f : Format) (x y : Float) → T (finite (add f x y)) → T (finite x) × T (finite y)
 unfolding add
