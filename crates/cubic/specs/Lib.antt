@@ -1,3 +1,4 @@
 pub mod Cubic
 pub mod DeCasteljau
+pub mod Limits
 pub mod Sample

@@ -13,6 +13,7 @@ use Rattle.geom.specs.Point.{len}
 use Rattle.geom.specs.Flat.{pt, coordinates}
 use Rattle.cubic.specs.Cubic.{cubicAt, subsegment}
 use Rattle.cubic.specs.DeCasteljau.{curveBefore, curveAfter}
+use Rattle.cubic.specs.Limits.{curveIn}
 use Rattle.cubic.specs.Sample.{steps, stepAt, sampleCount}
 use Rattle.refusal.specs.Order.{Rank, lists, arguments, reference, capacity, result, output, Test, passes, holds, Verdict, accepted, refused, verdict}
 use Rattle.cubic_calls.specs.declared.answers.Number.{Number}
@@ -22,7 +23,6 @@ use Rattle.cubic_calls.specs.declared.answers.Number.the-variants as num
 use Rattle.cubic_calls.specs.declared.answers.Point.the-variants as point
 use Rattle.cubic_calls.specs.declared.answers.Filled.the-variants as filled
 use Rattle.geom.specs.Point.{pointIn}
-use Rattle.cubic_calls.specs.Limits.{curveIn}
 
 -- ---- the tests: what is given, what is made of it, the room that is lent; a failure of any stands at place 0
 

@@ -4,9 +4,9 @@ ghost use Rattle.cubic_calls.specs.Calls.{lenAnswer, cubicAtAnswer, samp
 use crate::answers::Filled;
 use crate::answers::Number;
 use crate::answers::Point;
-use crate::limits::curve_in_limit;
 use crate::limits::numbers_in_limit;
 use crate::limits::put_curve;
+use cubic::curve_in_limit;
 use geom::P;
 
 // The length of a vector.

@@ -1,4 +1,4 @@
-// The limit on control points and on a list's first numbers, and how a result is written to a lent list.
+// The limit on a list's first numbers, and how a result is written to a lent list.
 ghost use mathlib.Core.Path.{_≡_};
 ghost use Prim.Native.Nat.{_≤_};
 ghost use lib.ListN.{length};
@@ -6,19 +6,7 @@ ghost use Rattle.views.specs.View.{entry, overwrite};
 ghost use Rattle.views.specs.Search.{all};
 ghost use Rattle.real.specs.Limit.{inLimit};
 ghost use Rattle.geom.specs.Flat.{pt, coordinates};
-ghost use Rattle.cubic_calls.specs.Limits.{curveIn};
 use geom::P;
-
-pub fn curve_in_limit(c: [P; 4]) -> bool
-    ensures { λ r. ⌜ r ≡ curveIn c ⌝ }
-{
-    for k in 0..4 {
-        if !c[k].in_limit() {
-            return false;
-        }
-    }
-    true
-}
 
 // Whether the first n numbers are within the limit.
 pub fn numbers_in_limit(xs: &[f64], n: usize) -> bool

@@ -13,7 +13,7 @@ use borrow.Author.Tests.{ltb-true, ltb-false, lt-ltb, le-ltb, eq-eqb, eqb-true}
 use Rattle.views.proofs.Laws.{order}
 
 -- ---- ±a is at most ±b
-abbrev AtMost : Bool → ℕ → Bool → ℕ → Type 0
+abbrev pub AtMost : Bool → ℕ → Bool → ℕ → Type 0
 AtMost false a false b = a ≤ b
 AtMost false a true b = (a ≡ 0) × (b ≡ 0)
 AtMost true a false b = Unit {0}
@@ -24,7 +24,7 @@ or-true true q e n = absurd (n refl)
 or-true false q e n = e
 
 -- as the tests say it, and back
-at-most : (s t : Bool) (a b : ℕ) → (below s a t b || level s a t b) ≡ true → AtMost s a t b
+pub at-most : (s t : Bool) (a b : ℕ) → (below s a t b || level s a t b) ≡ true → AtMost s a t b
 at-most false false a b e = ⊎-elim (λ h. h) (λ h. absurd (no h)) (order a b)
   where
     no : b < a → ⊥

@@ -63,7 +63,7 @@ le→fractions : (m : ℕ) (e : ℤ) (n : ℕ) (d : ℤ) → T (le (fin false m 
 unfolding le
 le→fractions m e n d h = at-most (m * up e * down d) (n * up d * down e) h
 
-fractions→le : (m : ℕ) (e : ℤ) (n : ℕ) (d : ℤ) → m * up e * down d ≤ n * up d * down e → T (le (fin false m e) (fin false n d))
+pub fractions→le : (m : ℕ) (e : ℤ) (n : ℕ) (d : ℤ) → m * up e * down d ≤ n * up d * down e → T (le (fin false m e) (fin false n d))
 fractions→le m e n d h = le-of-values (fin false m e) (fin false n d) (m * up e) (down e) (n * up d) (down d) (down-pos e) (down-pos d) (refl, refl) (refl, refl) h
 
 pub le-trans-nonneg : (x y z : Float) → T (nonneg x) → T (nonneg y) → T (nonneg z) → T (le x y) → T (le y z) → T (le x z)
@@ -136,18 +136,20 @@ parts f m e t =
       ltb→lt _ _ (and-r (a && b && c) d t),
     )
 
+pub whole-exact : (f : Format) (s : Bool) (q j : ℕ) → q < 2 ^ prec f → q * 2 ^ j < 2 ^ suc (emax f) → HasValue (round f s (q * 2 ^ j) 1) s (q * 2 ^ j) 1
+whole-exact f s q j h l =
+    round-exact f s (q * 2 ^ j) 1 q (j + low f) (lit< tt) h
+    (subst (λ z. q * z < 2 ^ (low f + suc (emax f))) (sym (pow-add 2 j (low f)))
+    (subst (λ z. q * (2 ^ j * 2 ^ low f) < z) (sym (pow-add 2 (low f) (suc (emax f))))
+    (lt-of-le-of-lt (le-of-eq (sym (mul-assoc q (2 ^ j) (2 ^ low f))))
+    (lt-of-lt-of-le (mul-lt-mul-of-pos-right l (pow-pos (low f))) (le-of-eq (mul-comm (2 ^ suc (emax f)) (2 ^ low f)))))))
+    (mul-assoc q (2 ^ j) (2 ^ low f) ∙ ap (λ z. q * z) (sym (pow-add 2 j (low f))) ∙ sym (mul-one (q * 2 ^ (j + low f))))
+
 own : (f : Format) (m : ℕ) (e : ℤ) → T (fits f (fin false m e)) → HasValue (round f false (m * up e) (down e)) false (m * up e) (down e)
 own f zero e t =
     round-exact f false (0 * up e) (down e) 0 0 (down-pos e) (pow-pos (prec f)) (pow-pos (low f + suc (emax f)))
     (rw (zero-mul, zero-mul) (sym (zero-mul (down e))))
-own f (suc m) (pos k) t =
-    let w = parts f m (pos k) t in
-    round-exact f false (suc m * 2 ^ k) 1 (suc m) (k + low f) (lit< tt) (w .0)
-    (subst (λ z. suc m * z < 2 ^ (low f + suc (emax f))) (sym (pow-add 2 k (low f)))
-    (subst (λ z. suc m * (2 ^ k * 2 ^ low f) < z) (sym (pow-add 2 (low f) (suc (emax f))))
-    (lt-of-le-of-lt (le-of-eq (sym (mul-assoc (suc m) (2 ^ k) (2 ^ low f))))
-    (lt-of-lt-of-le (mul-lt-mul-of-pos-right (w .2) (pow-pos (low f))) (le-of-eq (ap (λ z. z * 2 ^ low f) (mul-one (2 ^ suc (emax f))) ∙ mul-comm (2 ^ suc (emax f)) (2 ^ low f)))))))
-    (mul-assoc (suc m) (2 ^ k) (2 ^ low f) ∙ ap (λ z. suc m * z) (sym (pow-add 2 k (low f))) ∙ sym (mul-one (suc m * 2 ^ (k + low f))))
+own f (suc m) (pos k) t = let w = parts f m (pos k) t in whole-exact f false (suc m) k (w .0) (rw mul-one at (w .2))
 own f (suc m) (negsuc k) t =
     let w = parts f m (negsuc k) t in
     let l : suc k ≤ low f = pow-back (suc k) (low f) (w .1) in

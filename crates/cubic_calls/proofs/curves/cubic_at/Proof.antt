@@ -3,7 +3,7 @@ use mathlib.Core.Path.{_≡_, refl}
 use mathlib.Core.Bool.{Bool, true, false, _&&_}
 use mathlib.Core.Logic.{⊎-elim}
 use Rattle.real.specs.Limit.{inLimit}
-use Rattle.cubic_calls.specs.Limits.{curveIn}
+use Rattle.cubic.specs.Limits.{curveIn}
 use Rattle.cubic_calls.specs.Calls.{cubicAtAnswer}
 use Rattle.cubic_calls.proofs.Outcomes.{
   held,

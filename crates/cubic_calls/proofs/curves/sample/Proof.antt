@@ -16,7 +16,7 @@ use Rattle.views.proofs.Laws.{at-overwrite, overwrite-cong}
 use Rattle.real.specs.Limit.{inLimit}
 use Rattle.geom.specs.Flat.{coordinates}
 use Rattle.cubic.specs.Sample.{steps, stepAt}
-use Rattle.cubic_calls.specs.Limits.{curveIn}
+use Rattle.cubic.specs.Limits.{curveIn}
 use Rattle.cubic_calls.specs.Calls.{sampleVerdict, sampleAnswer, sampleLeft}
 use Rattle.cubic_calls.proofs.Outcomes.{
   held,

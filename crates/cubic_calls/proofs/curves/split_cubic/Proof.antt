@@ -10,7 +10,7 @@ use borrow.Author.Tests.{ltb-true, ltb-false}
 use Rattle.real.specs.Limit.{inLimit}
 use Rattle.geom.specs.declared.point.P.{P}
 use Rattle.cubic.specs.DeCasteljau.{curveBefore, curveAfter}
-use Rattle.cubic_calls.specs.Limits.{curveIn}
+use Rattle.cubic.specs.Limits.{curveIn}
 use Rattle.cubic_calls.specs.Calls.{fits, splitVerdict, splitAnswer, splitBefore, splitAfter}
 use Rattle.cubic_calls.proofs.Outcomes.{
   held,

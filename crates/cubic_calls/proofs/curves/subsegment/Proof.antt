@@ -5,7 +5,7 @@ use mathlib.Core.Logic.{⊎-elim}
 use native.Mathlib.Omega.{arith}
 use borrow.Author.Needs.{needs}
 use Rattle.real.specs.Limit.{inLimit}
-use Rattle.cubic_calls.specs.Limits.{curveIn}
+use Rattle.cubic.specs.Limits.{curveIn}
 use Rattle.cubic_calls.specs.Calls.{partVerdict, partAnswer, partLeft}
 use Rattle.cubic_calls.proofs.Outcomes.{
   held,

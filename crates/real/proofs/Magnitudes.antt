@@ -1,51 +1,40 @@
 -- How large a result can be: a product's, and a sum's, magnitude is at most what the bounds of its parts give, rounded likewise. Assumes nothing.
 use mathlib.Core.Path.{_≡_, refl, sym, subst}
-use mathlib.Core.Bool.{Bool, true, false, _&&_, _||_, cond, Bool·beq, true≢false}
+use mathlib.Core.Bool.{Bool, true, false, not, _&&_, cond, Bool·beq, true≢false}
 use Prim.Native.Nat.{ℕ, zero, suc, _+_, _-_, _*_, _^_, _≤_, _<_}
 use native.Mathlib.Nat.{le-trans, le-of-eq, le-of-lt, le-refl, mul-comm, mul-assoc, mul-left-comm, mul-one, add-mul, mul-le-mul, mul-le-mul-right, mul-pos}
 use native.Mathlib.Omega.{arith}
 use lib.Dec.{T, ltb, eqb, leb}
 use lib.IntN.{ℤ}
-use lib.Ieee.{Float, nan, inf, fin, Format, prec, emax, low, up, down, unlike, odd, units, round, sum, add, mul, neg, le}
+use lib.Ieee.{Float, nan, inf, fin, Format, prec, emax, low, up, down, unlike, odd, units, round, sum, add, sub, mul, neg, le}
 use lib.Ieee.Scale.{finite}
 use lib.Ieee.Fits.{down-pos}
+use lib.Ieee.Bits.{is-true}
 use lib.Ieee.Order.{round-mono}
 use lib.Ieee.Positive.{through}
-use borrow.Author.Tests.{ltb-true, eqb-true, leb-true, le-leb}
-use Rattle.views.proofs.Bools.{both}
+use borrow.Author.Tests.{leb-true, le-leb}
+use Rattle.root.specs.Root.{rootOf}
+use Rattle.root.specs.Sign.{nonneg}
+use Rattle.root.proofs.Theorems.{root-nonneg, root-mono}
+use Rattle.real.specs.Finite.{isFinite}
 use Rattle.real.specs.Limit.{inLimit}
 use Rattle.real.specs.StandIns.{abs}
-use Rattle.path.specs.Limit.{withinLimit}
+use Rattle.real.proofs.Orders.{at-most}
+use Rattle.real.proofs.Sums.{fractions→le}
 
 -- x is finite, and of magnitude at most b, which is finite and has its sign clear
 pub data Under : Float → Float → Type 0 where
   under : (s : Bool) (m : ℕ) (e : ℤ) (n : ℕ) (d : ℤ) → m * up e * down d ≤ n * up d * down e → Under (fin s m e) (fin false n d)
 
 -- ---- rounded
-at-most : (a b : ℕ) (t : Bool) → T (ltb a b || (eqb a b && t)) → a ≤ b
-at-most a b t = go (ltb a b) refl (eqb a b) refl
-  where
-    go : (p : Bool) → ltb a b ≡ p → (q : Bool) → eqb a b ≡ q → T (p || (q && t)) → a ≤ b
-    go true e q f h = le-of-lt (ltb-true a b e)
-    go false e true f h = le-of-eq (eqb-true a b f)
-    go false e false f h = absurd h
-
-at-most' : (a b : ℕ) (t : Bool) → T (ltb a b || (eqb b a && t)) → a ≤ b
-at-most' a b t = go (ltb a b) refl (eqb b a) refl
-  where
-    go : (p : Bool) → ltb a b ≡ p → (q : Bool) → eqb b a ≡ q → T (p || (q && t)) → a ≤ b
-    go true e q f h = le-of-lt (ltb-true a b e)
-    go false e true f h = le-of-eq (sym (eqb-true b a f))
-    go false e false f h = absurd h
-
 -- the sign is no part of the magnitude
 units-under : (f : Format) (s : Bool) (q k n : ℕ) (d : ℤ) → T (le (units f false q k) (fin false n d)) → Under (units f s q k) (fin false n d)
 unfolding units odd le
 units-under f s q k n d = go (ltb (q * 2 ^ k) (2 ^ (low f + suc (emax f)))) q
   where
     go : (b : Bool) (q : ℕ) → T (le (cond b (odd (suc (prec f)) false q k (low f)) (inf false)) (fin false n d)) → Under (cond b (odd (suc (prec f)) s q k (low f)) (inf s)) (fin false n d)
-    go true zero h = under _ _ _ n d (at-most _ _ _ h)
-    go true (suc q) h = under _ _ _ n d (at-most _ _ _ h)
+    go true zero h = under _ _ _ n d (at-most false false _ _ (is-true _ h))
+    go true (suc q) h = under _ _ _ n d (at-most false false _ _ (is-true _ h))
     go false q h = absurd h
 
 record Clear (x : Float) : Type 0 where
@@ -62,7 +51,7 @@ cleared f q k = go (ltb (q * 2 ^ k) (2 ^ (low f + suc (emax f)))) q
     go true (suc q) h = record { n = _; d = _; is = refl }
     go false q h = absurd h
 
-round-under : (f : Format) (s : Bool) (a b c d : ℕ) → 0 < b → 0 < d → a * d ≤ c * b → T (finite (round f false c d)) → Under (round f s a b) (round f false c d)
+pub round-under : (f : Format) (s : Bool) (a b c d : ℕ) → 0 < b → 0 < d → a * d ≤ c * b → T (finite (round f false c d)) → Under (round f s a b) (round f false c d)
 unfolding round
 round-under f s a b c d B D h t =
     let w = cleared f _ _ t in
@@ -114,7 +103,41 @@ add-under f (under s m e n d h) (under t k g l i j) w = go (Bool·beq s t) (ltb 
     go false true = part t (b - a) (omega arith)
     go false false = part (s && ltb b a) (a - b) (omega arith)
 
--- ---- what is finite is made of what is finite
+-- ---- a difference: as the sum, since the sign is no part of the magnitude
+neg-under : {x b : Float} → Under x b → Under (neg x) b
+unfolding neg
+neg-under (under s m e n d h) = under (not s) m e n d h
+
+pub sub-under : (f : Format) {x y X Y : Float} → Under x X → Under y Y → T (finite (add f X Y)) → Under (sub f x y) (add f X Y)
+unfolding sub
+sub-under f X Y w = add-under f X (neg-under Y) w
+
+-- ---- a root
+le-under : (x b : Float) → T (nonneg x) → T (nonneg b) → T (finite b) → T (le x b) → Under x b
+unfolding le
+le-under x nan p q w h = absurd w
+le-under x (inf t) p q w h = absurd w
+le-under x (fin true n d) p q w h = absurd q
+le-under nan (fin false n d) p q w h = absurd p
+le-under (inf true) (fin false n d) p q w h = absurd p
+le-under (inf false) (fin false n d) p q w h = absurd h
+le-under (fin true m e) (fin false n d) p q w h = absurd p
+le-under (fin false m e) (fin false n d) p q w h = under false m e n d (at-most false false _ _ (is-true _ h))
+
+pub root-under : {x b : Float} → Under x b → T (nonneg x) → T (finite (rootOf b)) → Under (rootOf x) (rootOf b)
+root-under (under true m e n d h) p w = absurd p
+root-under (under false m e n d h) p w =
+    le-under (rootOf (fin false m e)) (rootOf (fin false n d)) (root-nonneg (fin false m e) tt) (root-nonneg (fin false n d) tt) w
+    (root-mono (fin false m e) (fin false n d) tt tt (fractions→le m e n d h))
+
+-- ---- what is finite: all that is of such a magnitude, and what makes something finite
+pub under-finite : {x b : Float} → Under x b → T (finite x)
+under-finite (under s m e n d h) = tt
+
+pub is-finite : {x b : Float} → Under x b → isFinite x ≡ true
+unfolding isFinite
+is-finite (under s m e n d h) = refl
+
 pub finite-sum : (f : Format) (x y : Float) → T (finite (add f x y)) → T (finite x) × T (finite y)
 unfolding add
 finite-sum f nan y h = absurd h
@@ -166,21 +189,3 @@ unfolding abs
 abs-again nan = refl
 abs-again (inf s) = refl
 abs-again (fin s m e) = refl
-
--- the two tests of a bound whose sign is clear
-signs : (n : ℕ) (d : ℤ) → fin true n d ≡ fin false n d → true ≡ false
-signs n d e = cc
-
-told : {b : Bool} → b ≡ true → T b
-told e = subst T (sym e) tt
-
-pub within-under : (b x : Float) → b ≡ abs b → inLimit b ≡ true → withinLimit b x ≡ true → Under x b
-unfolding withinLimit inLimit abs neg le
-within-under nan x c l h = absurd (true≢false (sym l))
-within-under (inf s) x c l h = absurd (true≢false (sym l))
-within-under (fin true n d) x c l h = absurd (true≢false (signs n d c))
-within-under (fin false n d) nan c l h = absurd (true≢false (sym h))
-within-under (fin false n d) (inf true) c l h = absurd (true≢false (sym h))
-within-under (fin false n d) (inf false) c l h = absurd (true≢false (sym h))
-within-under (fin false n d) (fin false m e) c l h = under false m e n d (at-most _ _ _ (told (both (le (fin true n d) (fin false m e)) _ h .1)))
-within-under (fin false n d) (fin true m e) c l h = under true m e n d (at-most' _ _ _ (told (both (le (fin true n d) (fin true m e)) _ h .0)))

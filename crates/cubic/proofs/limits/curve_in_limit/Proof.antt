@@ -1,4 +1,4 @@
--- `cubic_calls::limits::curve_in_limit` meets its contract: the points before k are within the limit. Assumes nothing.
+-- `cubic::limits::curve_in_limit` meets its contract: the points before k are within the limit. Assumes nothing.
 use mathlib.Core.Path.{_≡_, sym, _∙_}
 use mathlib.Core.Bool.{true}
 use Prim.Native.Nat.{ℕ, _-_, _≤_, _<_}
@@ -9,9 +9,9 @@ use borrow.Author.Tests.{not-true, not-false}
 use Rattle.views.proofs.Searches.{all-true, all-false}
 use Rattle.geom.specs.Flat.{pt}
 use Rattle.geom.specs.Point.{pointIn}
-use Rattle.cubic_calls.specs.Limits.{curveIn}
-use Rattle.cubic_calls.proofs.limits.curve_in_limit.Statement.{statement}
-use Rattle.cubic_calls.proofs.limits.curve_in_limit.Tie as tie
+use Rattle.cubic.specs.Limits.{curveIn}
+use Rattle.cubic.proofs.limits.curve_in_limit.Statement.{statement}
+use Rattle.cubic.proofs.limits.curve_in_limit.Tie as tie
 
 abbrev Inv-loop : tie.InvT-loop
 Inv-loop c k₀ k = (k ≤ 4) × ((j : ℕ) → j < k → pointIn (pt c j) ≡ true)
