@@ -1,12 +1,12 @@
 -- What the tests of a reach say: the anchors are in limit, what the map makes of them is too, and so refusals 7, 5 and 9 do not come. Assumes nothing.
-use mathlib.Core.Path.{_≡_, refl, sym, ap, _∙_}
+use mathlib.Core.Path.{_≡_, sym, ap, _∙_}
 use mathlib.Core.Bool.{true, false, true≢false}
 use mathlib.Core.List.{List}
 use Prim.Native.Nat.{ℕ, zero, suc, _+_, _*_, _/_, _%_, _≤_, _<_}
 use native.Mathlib.Omega.{arith}
 use lib.IntN.{ℤ}
 use lib.ListN.{length}
-use lib.Ieee.{Float, nan, inf, fin, binary64, neg, lt, eq, le}
+use lib.Ieee.{Float, nan, inf, fin, binary64, neg, le}
 use Rattle.views.specs.View.{entry, tabulate}
 use Rattle.views.specs.Search.{all}
 use Rattle.views.proofs.Bools.{both}
