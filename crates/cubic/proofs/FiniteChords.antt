@@ -12,7 +12,7 @@ use Rattle.views.proofs.Bools.{both}
 use Rattle.views.proofs.Searches.{all-says}
 use Rattle.root.specs.Root.{rootOf}
 use Rattle.real.specs.Finite.{isFinite}
-use Rattle.real.specs.Operators.{_⊕_, _⊖_, _⊗_, 1f, 3f}
+use Rattle.real.specs.Operators.{_⊖_, _⊗_, 1f, 3f}
 use Rattle.real.specs.Sums.{running}
 use Rattle.real.proofs.Magnitudes.{Under, under, root-under, under-finite, is-finite}
 use Rattle.real.proofs.PowersOfTwo.{power, scaled, wider, mul-power, add-power, sub-power, running-under, share-under, limit-power}

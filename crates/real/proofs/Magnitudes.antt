@@ -1,10 +1,10 @@
--- How large a result can be: a product's, and a sum's, magnitude is at most what the bounds of its parts give, rounded likewise. Assumes nothing.
+-- How large a result can be: the magnitude of a product, a sum, a difference or a root is at most what the bounds of its parts give, rounded likewise. Assumes nothing.
 use mathlib.Core.Path.{_≡_, refl, sym, subst}
 use mathlib.Core.Bool.{Bool, true, false, not, _&&_, cond, Bool·beq, true≢false}
 use Prim.Native.Nat.{ℕ, zero, suc, _+_, _-_, _*_, _^_, _≤_, _<_}
-use native.Mathlib.Nat.{le-trans, le-of-eq, le-of-lt, le-refl, mul-comm, mul-assoc, mul-left-comm, mul-one, add-mul, mul-le-mul, mul-le-mul-right, mul-pos}
+use native.Mathlib.Nat.{le-trans, le-of-eq, le-refl, mul-comm, mul-assoc, mul-left-comm, mul-one, add-mul, mul-le-mul, mul-le-mul-right, mul-pos}
 use native.Mathlib.Omega.{arith}
-use lib.Dec.{T, ltb, eqb, leb}
+use lib.Dec.{T, ltb, eqb}
 use lib.IntN.{ℤ}
 use lib.Ieee.{Float, nan, inf, fin, Format, prec, emax, low, up, down, unlike, odd, units, round, sum, add, sub, mul, neg, le}
 use lib.Ieee.Scale.{finite}

@@ -5,11 +5,11 @@ use mathlib.Core.Bool.{Bool, true, false, _||_, true≢false}
 use Prim.Native.Nat.{ℕ, zero, suc, _+_, _*_, _≤_, _<_}
 use native.Mathlib.Nat.{mul-pos, zero-mul, zero-lt-suc}
 use native.Mathlib.Omega.{arith}
-use lib.Dec.{ltb, eqb}
+use lib.Dec.{eqb}
 use lib.Ieee.{Float, nan, inf, fin, isNan, up, down, below, level, lt, le, eq}
 use lib.Ieee.Fits.{down-pos}
 use lib.Ieee.Positive.{through}
-use borrow.Author.Tests.{ltb-true, ltb-false, lt-ltb, le-ltb, eq-eqb, eqb-true}
+use borrow.Author.Tests.{ltb-false, lt-ltb, le-ltb, eq-eqb, eqb-true}
 use Rattle.views.proofs.Laws.{order}
 
 -- ---- ±a is at most ±b

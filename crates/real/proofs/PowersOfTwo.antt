@@ -1,13 +1,13 @@
 -- Magnitudes bounded by powers of two and their multiples, which no rounding changes: a step adds exponents, or counts, and no number is computed. Assumes nothing.
-use mathlib.Core.Path.{_≡_, refl, sym, ap, _∙_, subst}
-use mathlib.Core.Bool.{Bool, true, false, cond, true≢false}
+use mathlib.Core.Path.{_≡_, refl, sym, _∙_, subst}
+use mathlib.Core.Bool.{true, false, true≢false}
 use Prim.Native.Nat.{ℕ, zero, suc, _+_, _*_, _^_, _≤_, _<_, zero-le}
-use native.Mathlib.Nat.{le-trans, le-of-eq, le-of-lt, le-refl, lt-of-lt-of-le, mul-one, one-mul, add-mul, mul-right-comm, mul-le-mul-right, mul-pos, two-pow-succ}
+use native.Mathlib.Nat.{le-trans, le-of-eq, lt-of-lt-of-le, mul-one, one-mul, add-mul, mul-le-mul-right, mul-pos, two-pow-succ}
 use native.Mathlib.Omega.{arith}
-use lib.Dec.{T, eqb, lit<, lit≤}
-use lib.IntN.{ℤ, pos}
-use lib.Pow.{pow-add, pow-mono, pow-lt, shl-lt}
-use lib.Ieee.{Float, nan, inf, fin, binary64, up, down, unlike, round, sum, add, sub, mul, div, ofBits, ofInt}
+use lib.Dec.{T, lit<}
+use lib.IntN.{pos}
+use lib.Pow.{pow-add, pow-mono, shl-lt}
+use lib.Ieee.{Float, nan, inf, fin, binary64, up, down, unlike, round, sum, add, mul, div, ofBits, ofInt}
 use lib.Ieee.Scale.{finite}
 use lib.Ieee.Fits.{down-pos}
 use lib.Ieee.Exact.{HasValue}
@@ -36,7 +36,7 @@ bounded : {x b : Float} → Under x b → (n j : ℕ) → HasValue b false (n * 
 bounded (under s m e k d h) n j v =
     under s m e n (pos j) (through (m * up e) (k * up d) (n * 2 ^ j) (down e) (down d) 1 (down-pos d) h (le-of-eq (v .1)))
 
--- such a value is a number of the format
+-- such a value is a number of the format: below 2^1024, since n is below 2^53
 held : (n j : ℕ) → n < 2 ^ 53 → j ≤ 971 → (a : ℕ) → a ≡ n * 2 ^ j → HasValue (round binary64 false a 1) false (n * 2 ^ j) 1
 held n j h l a e =
     subst (λ z. HasValue (round binary64 false z 1) false (n * 2 ^ j) 1) (sym e)

@@ -2,15 +2,15 @@
 use mathlib.Core.Path.{_≡_, refl, sym, ap, _∙_, subst}
 use mathlib.Core.Logic.{_⊎_, inl, inr, ⊎-elim}
 use mathlib.Core.Bool.{Bool, true, false, not, _&&_, _||_, cond, Bool·beq}
-use Prim.Native.Nat.{ℕ, zero, suc, _+_, _-_, _*_, _%_, _^_, _≤_, _<_, zero-le}
-use native.Mathlib.Nat.{le-trans, le-of-eq, le-of-lt, le-refl, lt-of-lt-of-le, lt-of-le-of-lt, not-le-of-lt, mul-comm, mul-assoc, mul-left-comm, mul-right-comm, mul-one, one-mul, zero-mul, mul-le-mul-right, mul-lt-mul-of-pos-right, mul-pos, le-add-right, zero-lt-suc, lt-of-mul-lt-mul-right}
+use Prim.Native.Nat.{ℕ, zero, suc, _+_, _-_, _*_, _%_, _^_, _≤_, _<_}
+use native.Mathlib.Nat.{le-trans, le-of-eq, le-of-lt, le-refl, lt-of-lt-of-le, lt-of-le-of-lt, not-le-of-lt, mul-comm, mul-assoc, mul-left-comm, mul-right-comm, mul-one, zero-mul, mul-le-mul-right, mul-lt-mul-of-pos-right, mul-pos, le-add-right, lt-of-mul-lt-mul-right}
 use native.Mathlib.Omega.{arith}
-use lib.Dec.{T, leb, ltb, eqb, leb→le, ltb→lt, lt→ltb, le→leb, eqb→eq, lit<}
+use lib.Dec.{T, leb, ltb, eqb, leb→le, ltb→lt, lt→ltb, eqb→eq, lit<}
 use lib.Pow.{pow-add, pow-pos, pow-lt, pow-mono, shl-lt}
 use lib.IntN.{ℤ, pos, negsuc}
 use lib.Ieee.{Float, nan, inf, fin, Format, prec, emax, low, up, down, unlike, isNan, odd, units, round, sum, add, mul, lt, le, fits}
 use lib.Ieee.Scale.{finite}
-use lib.Ieee.Fits.{two, reach, up-pos, down-pos, and-l, and-r, add-fits}
+use lib.Ieee.Fits.{two, reach, down-pos, and-l, and-r}
 use lib.Ieee.Digits.{back}
 use lib.Ieee.Exact.{HasValue, round-exact}
 use lib.Ieee.Order.{le-of-values, round-mono}
@@ -136,6 +136,7 @@ parts f m e t =
       ltb→lt _ _ (and-r (a && b && c) d t),
     )
 
+-- a whole number of times a power of two
 pub whole-exact : (f : Format) (s : Bool) (q j : ℕ) → q < 2 ^ prec f → q * 2 ^ j < 2 ^ suc (emax f) → HasValue (round f s (q * 2 ^ j) 1) s (q * 2 ^ j) 1
 whole-exact f s q j h l =
     round-exact f s (q * 2 ^ j) 1 q (j + low f) (lit< tt) h

@@ -1,4 +1,3 @@
 pub mod Laid
-pub mod Magnitudes
 pub mod Staying
 pub mod Outcomes

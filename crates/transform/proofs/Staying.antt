@@ -1,18 +1,22 @@
 -- What the tests of a reach say: the anchors are in limit, what the map makes of them is too, and so refusals 7, 5 and 9 do not come. Assumes nothing.
-use mathlib.Core.Path.{_≡_, refl, sym, ap, _∙_}
-use mathlib.Core.Bool.{true}
+use mathlib.Core.Path.{_≡_, sym, ap, _∙_}
+use mathlib.Core.Bool.{true, false, true≢false}
 use mathlib.Core.List.{List}
 use Prim.Native.Nat.{ℕ, zero, suc, _+_, _*_, _/_, _%_, _≤_, _<_}
 use native.Mathlib.Omega.{arith}
+use lib.IntN.{ℤ}
 use lib.ListN.{length}
-use lib.Ieee.{Float, binary64}
+use lib.Ieee.{Float, nan, inf, fin, binary64, neg, le}
 use Rattle.views.specs.View.{entry, tabulate}
 use Rattle.views.specs.Search.{all}
+use Rattle.views.proofs.Bools.{both}
 use Rattle.views.proofs.Laws.{length-tabulate, at-tabulate}
 use Rattle.views.proofs.Searches.{all-true, all-says}
 use Rattle.real.specs.Operators.{_⊕_, _⊗_}
 use Rattle.real.specs.StandIns.{abs}
 use Rattle.real.specs.Limit.{inLimit}
+use Rattle.real.proofs.Magnitudes.{Under, under, mul-under, add-under, finite-sum, finite-product, limit-finite, limit-under, abs-under}
+use Rattle.real.proofs.Orders.{at-most}
 use Rattle.refusal.specs.Order.{passes}
 use Rattle.path.specs.declared.anchor.Anchor.{Anchor}
 use Rattle.path.specs.Shape.{total}
@@ -25,7 +29,21 @@ use Rattle.call.specs.declared.opening.Opened.the-variants.{Anchors}
 use Rattle.call.specs.Tests.{openedPath, outlineIn, outlineLimit}
 use Rattle.call.proofs.Openings.{places-pass, path-good}
 use Rattle.transform.specs.Mapped.{mapped, mappedAt, mappedPath}
-use Rattle.transform.proofs.Magnitudes.{Under, mul-under, add-under, finite-sum, finite-product, limit-finite, limit-under, abs-under, within-under}
+
+-- the two tests of a bound whose sign is clear
+signs : (n : ℕ) (d : ℤ) → fin true n d ≡ fin false n d → true ≡ false
+signs n d e = cc
+
+within-under : (b x : Float) → b ≡ abs b → inLimit b ≡ true → withinLimit b x ≡ true → Under x b
+unfolding withinLimit inLimit abs neg le
+within-under nan x c l h = absurd (true≢false (sym l))
+within-under (inf s) x c l h = absurd (true≢false (sym l))
+within-under (fin true n d) x c l h = absurd (true≢false (signs n d c))
+within-under (fin false n d) nan c l h = absurd (true≢false (sym h))
+within-under (fin false n d) (inf true) c l h = absurd (true≢false (sym h))
+within-under (fin false n d) (inf false) c l h = absurd (true≢false (sym h))
+within-under (fin false n d) (fin false m e) c l h = under false m e n d (at-most false false _ _ (both (le (fin true n d) (fin false m e)) _ h .1))
+within-under (fin false n d) (fin true m e) c l h = under true m e n d (at-most true true _ _ (both (le (fin true n d) (fin true m e)) _ h .0))
 
 -- a row of the map: what `keeps` tests bounds what it makes
 abbrev Keeps : Float → Float → Float → Float → Type 0

@@ -2,7 +2,7 @@
 use mathlib.Core.Path.{sym, ap, _∙_}
 use borrow.Author.Needs.{needs}
 use Rattle.real.specs.StandIns.{abs}
-use Rattle.transform.proofs.Magnitudes.{abs-again}
+use Rattle.real.proofs.Magnitudes.{abs-again}
 use Rattle.transform.proofs.reach.reach_of.Statement.{statement}
 use Rattle.transform.proofs.reach.reach_of.Tie as tie
 
