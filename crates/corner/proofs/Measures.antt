@@ -2,7 +2,9 @@
 use mathlib.Core.Path.{_≡_, refl, sym}
 use mathlib.Core.Bool.{Bool, true, false, _&&_}
 use Prim.Native.Nat.{ℕ}
-use lib.Ieee.{lt, le, sub, add, sum, mul, neg, ofBits}
+use lib.Ieee.{lt, le, sub, add, sum, mul, neg, ofBits, round}
+use Rattle.real.specs.Operators.{0f}
+use Rattle.real.specs.Finite.{isFinite}
 use Rattle.root.specs.Root.{rootOf}
 use Rattle.views.proofs.Bools.{and-false}
 use Rattle.geom.specs.Point.{minus, len, dist}
@@ -11,13 +13,18 @@ use Rattle.side.specs.Side.{isStraightSide, lengthOf, longEnough, isLong}
 use Rattle.corner.specs.declared.corner.Corner.{Corner}
 use Rattle.corner.specs.Corner.{1e-6, sin, withLengths, noCorner, sharp}
 
--- no corner has sides of length 0
+-- where there is no corner the sides are points, of length 0
+pub point-length : (chords : ℕ) → lengthOf chords (noCorner .«side_u») ≡ 0f
+unfolding lengthOf isStraightSide dist len minus rootOf lt le sub add sum mul neg ofBits round
+point-length chords = refl
+
 pub none-measured : (chords : ℕ) → withLengths chords noCorner ≡ noCorner
-unfolding withLengths lengthOf isStraightSide dist len minus rootOf
-none-measured chords = refl
+unfolding withLengths
+none-measured chords = rw (point-length chords)
 
 -- and no hint
 pub none-short : lt CEPS (noCorner .lu) ≡ false
+unfolding lt ofBits
 none-short = refl
 
 -- what `of` and `corner_at` ensure where there is no corner
@@ -36,4 +43,7 @@ regroup true true true true true = refl
 
 pub sharp-sides : (chords : ℕ) (k : Corner) → (lt 1e-6 (sin k) && isLong chords (k .«side_u») && isLong chords (k .«side_v»)) ≡ sharp (withLengths chords k)
 unfolding isLong longEnough sharp withLengths sin
-sharp-sides chords k = regroup _ _ _ _ _
+sharp-sides chords k =
+    let u = lengthOf chords (k .«side_u») in
+    let v = lengthOf chords (k .«side_v») in
+    regroup (lt 1e-6 (sin k)) (lt CEPS u) (lt CEPS v) (isFinite u) (isFinite v)

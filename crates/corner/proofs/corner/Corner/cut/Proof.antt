@@ -12,4 +12,11 @@ returns c =
     rw (← a .before .before .before .setback .ensures, ← a .at-length .ensures, ← b .at-length2 .ensures, ← h .handles .ensures)
 
 pub cut-spec : {M : Type 1} → statement M
-cut-spec = tie.close (tie.spec (λ c κs. tt) (λ c κs. tt) (λ c κs. tt) (λ c κs. tt) returns)
+cut-spec =
+    tie.close
+    (tie.spec
+    (λ c κs. tt)
+    (λ c κs. c .before .before .before .pre .0)
+    (λ c κs. c .before .before .before .before .pre .1)
+    (λ c κs. tt)
+    returns)

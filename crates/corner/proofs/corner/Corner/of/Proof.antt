@@ -1,12 +1,13 @@
 -- `corner::corner::Corner::of` meets its contract: each way out rewrites with the tests that led to it. Assumes nothing.
 use borrow.Author.Needs.{needs}
 use Rattle.corner.specs.Corner.{cornerOf, between}
+use Rattle.corner.proofs.Measures.{nothing}
 use Rattle.corner.proofs.corner.Corner.of.Statement.{statement}
 use Rattle.corner.proofs.corner.Corner.of.Tie as tie
 
 returns : tie.Need-returns
 unfolding cornerOf
-returns c = rw (← c .before .before .is-smooth .ensures, c .before .if1 .taken) (c .none .ensures)
+returns c = nothing _ _ (c .none .ensures) (rw (← c .before .before .is-smooth .ensures, c .before .if1 .taken))
 
 returns-2 : tie.Need-returns-2
 unfolding cornerOf between
@@ -14,7 +15,8 @@ returns-2 c =
     let d = c .before .before .before in
     let o = d .before .before in
     let e = o .before .before in
-    rw (← e .before .is-smooth .ensures, e .if1 .left, ← o .of .ensures, ← d .direction .ensures, c .before .enum-told .given .1) (c .none2 .ensures)
+    nothing _ _ (c .none2 .ensures)
+    (rw (← e .before .is-smooth .ensures, e .if1 .left, ← o .of .ensures, ← d .direction .ensures .0, c .before .enum-told .given .1))
 
 returns-3 : tie.Need-returns-3
 unfolding cornerOf between
@@ -24,17 +26,17 @@ returns-3 c =
     let du = u .before .before in
     let o = du .before .before in
     let e = o .before .before in
-    rw (
+    nothing _ _ (c .none3 .ensures)
+    (rw (
       ← e .before .is-smooth .ensures,
       e .if1 .left,
       ← o .of .ensures,
       ← du .before .of2 .ensures,
-      ← du .direction .ensures,
+      ← du .direction .ensures .0,
       u .du .given .1,
-      ← dv .direction2 .ensures,
+      ← dv .direction2 .ensures .0,
       c .before .enum-told2 .given .1,
-    )
-    (c .none3 .ensures)
+    ))
 
 returns-4 : tie.Need-returns-4
 unfolding cornerOf between
@@ -45,17 +47,24 @@ returns-4 c =
     let du = u .before .before in
     let o = du .before .before in
     let e = o .before .before in
-    rw (
-      ← e .before .is-smooth .ensures,
-      e .if1 .left,
-      ← o .of .ensures,
-      ← du .before .of2 .ensures,
-      ← du .direction .ensures,
-      u .du .given .1,
-      ← dv .direction2 .ensures,
-      v .dv .given .1,
+    (
+      rw (
+        ← e .before .is-smooth .ensures,
+        e .if1 .left,
+        ← o .of .ensures,
+        ← du .before .of2 .ensures,
+        ← du .direction .ensures .0,
+        u .du .given .1,
+        ← dv .direction2 .ensures .0,
+        v .dv .given .1,
+      )
+      (c .meet .ensures .0),
+      c .meet .ensures .1,
     )
-    (c .meet .ensures)
+
+-- the hint at the first side's length is how far off the point is that gives its direction
+far : tie.Need-meet-requires
+far c κs = let u = c .before .before .before .before .before in u .before .before .direction .ensures .1 _ (u .du .given .1)
 
 pub of-spec : {M : Type 1} → statement M
 of-spec =
@@ -76,5 +85,5 @@ of-spec =
     (λ c. search needs)
     (λ c κs. tt)
     returns-3
-    (λ c κs. tt)
+    far
     returns-4)
