@@ -14,22 +14,28 @@ use Rattle.corner.specs.declared.corner.Corner.{Corner}
 use Rattle.corner.specs.Corner.{1e-6, sin, withLengths, noCorner, sharp}
 
 -- where there is no corner the sides are points, of length 0
-pub point-length : (chords : ℕ) → lengthOf chords (noCorner .«side_u») ≡ 0f
+point-length : (chords : ℕ) → lengthOf chords (noCorner .«side_u») ≡ 0f
 unfolding lengthOf isStraightSide dist len minus rootOf lt le sub add sum mul neg ofBits round
 point-length chords = refl
 
-pub none-measured : (chords : ℕ) → withLengths chords noCorner ≡ noCorner
+none-measured : (chords : ℕ) → withLengths chords noCorner ≡ noCorner
 unfolding withLengths
 none-measured chords = rw (point-length chords)
 
 -- and no hint
-pub none-short : lt CEPS (noCorner .lu) ≡ false
+none-short : lt CEPS (noCorner .lu) ≡ false
 unfolding lt ofBits
 none-short = refl
 
 -- what `of` and `corner_at` ensure where there is no corner
+pub none-is : (r k : Corner) → r ≡ noCorner → k ≡ noCorner → withLengths 128 r ≡ k
+none-is r k e f = rw (e, f) (none-measured 128)
+
+pub none-found : (r : Corner) → r ≡ noCorner → lt CEPS (r .lu) ≡ r .found
+none-found r e = rw e none-short
+
 pub nothing : (r k : Corner) → r ≡ noCorner → k ≡ noCorner → (withLengths 128 r ≡ k) × (lt CEPS (r .lu) ≡ r .found)
-nothing r k e f = (rw (e, f) (none-measured 128), rw e none-short)
+nothing r k e f = (none-is r k e f, none-found r e)
 
 -- the tests of a corner, side by side
 regroup : (s a b c d : Bool) → (s && (a && c) && (b && d)) ≡ (a && b && c && d && s)
