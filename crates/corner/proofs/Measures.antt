@@ -1,22 +1,35 @@
 -- Corners before and after their sides are measured. Assumes nothing.
-use mathlib.Core.Path.{_≡_, refl, sym}
-use mathlib.Core.Bool.{Bool, true, false, _&&_}
+use mathlib.Core.Path.{_≡_, refl, ap, sym, _∙_}
+use mathlib.Core.Bool.{Bool, true, false, _&&_, true≢false}
+use mathlib.Core.List.{List}
 use Prim.Native.Nat.{ℕ}
-use lib.Ieee.{lt, le, sub, add, sum, mul, neg, ofBits, round}
+use lib.Ieee.{Float, lt, le, sub, add, sum, mul, neg, ofBits, round}
 use Rattle.real.specs.Operators.{0f}
 use Rattle.real.specs.Finite.{isFinite}
 use Rattle.root.specs.Root.{rootOf}
 use Rattle.views.proofs.Bools.{and-false}
 use Rattle.geom.specs.Point.{minus, len, dist}
 use Rattle.cubic.specs.Cubic.{CEPS}
-use Rattle.side.specs.Side.{isStraightSide, lengthOf, longEnough, isLong}
+use Rattle.side.specs.Side.{isStraightSide, lengthOf, longEnough, isLong, Serves}
 use Rattle.corner.specs.declared.corner.Corner.{Corner}
 use Rattle.corner.specs.Corner.{1e-6, sin, withLengths, noCorner, sharp}
 
--- where there is no corner the sides are points, of length 0
+-- where there is no corner the sides are points: straight, and of length 0
+point-straight : isStraightSide (noCorner .«side_u» .c) ≡ true
+unfolding isStraightSide dist len minus rootOf lt le sub add sum mul neg ofBits round
+point-straight = refl
+
 point-length : (chords : ℕ) → lengthOf chords (noCorner .«side_u») ≡ 0f
-unfolding lengthOf isStraightSide dist len minus rootOf lt le sub add sum mul neg ofBits round
-point-length chords = refl
+unfolding lengthOf dist len minus rootOf lt le sub add sum mul neg ofBits round
+point-length chords = rw point-straight
+
+-- so any table serves them
+pub none-served : (chords : ℕ) (table : List Float) (r : Corner) → r ≡ noCorner → Serves chords table (r .«side_u») × Serves chords table (r .«side_v»)
+unfolding Serves
+none-served chords table r e =
+    let point : isStraightSide (r .«side_u» .c) ≡ true = ap (λ (k : Corner). isStraightSide (k .«side_u» .c)) e ∙ point-straight in
+    let point' : isStraightSide (r .«side_v» .c) ≡ true = ap (λ (k : Corner). isStraightSide (k .«side_v» .c)) e ∙ point-straight in
+    (λ f. absurd (true≢false (sym point ∙ f)), λ f. absurd (true≢false (sym point' ∙ f)))
 
 none-measured : (chords : ℕ) → withLengths chords noCorner ≡ noCorner
 unfolding withLengths

@@ -1,12 +1,11 @@
--- Corners by their rows: one is found exactly where its first side is longer than 1e-9, and what the row leaves out the anchors give. Assumes nothing.
-use mathlib.Core.Path.{_≡_, refl, ap, _∙_}
+-- Corners by their rows: a row tells whether there is one, and in which directions its sides leave, and what it leaves out the anchors give. Assumes nothing.
+use mathlib.Core.Path.{_≡_, refl, ap, sym, _∙_}
 use mathlib.Core.Logic.{_⊎_, inl, inr, ⊎-elim}
 use mathlib.Core.Bool.{Bool, true, false, _&&_, cond}
 use mathlib.Core.List.{List}
 use Prim.Native.Nat.{ℕ, suc, _+_, _≤_, _<_}
 use native.Mathlib.Omega.{arith}
-use lib.Ieee.{Float, lt, ofBits}
-use Rattle.real.specs.Finite.{isFinite}
+use lib.Ieee.{Float, lt}
 use Rattle.real.specs.Operators.{0f}
 use Rattle.real.specs.StandIns.{max, min}
 use Rattle.geom.specs.declared.point.P.{P}
@@ -19,49 +18,41 @@ use Rattle.side.specs.declared.side.Direction.{Direction}
 use Rattle.side.specs.declared.side.Direction.the-variants.{Along, Nowhere}
 use Rattle.corner.specs.declared.corner.Corner.{Corner}
 use Rattle.side.specs.Side.{direction, lengthOf}
-use Rattle.corner.specs.Corner.{1e-6, noCorner, sideU, sideV, sin, sharp, meet, between, cornerOf, maxRadiusBeside}
-use Rattle.cut.specs.declared.rows.Row.{Row}
+use Rattle.corner.specs.Corner.{noCorner, sideU, sideV, cos, sin, withLengths, sharp, meet, between, cornerOf, setback, maxRadiusBeside}
 use Rattle.cut.specs.View.{View, arrives, leaves}
 use Rattle.cut.specs.Near.{near}
 use Rattle.cut.specs.Places.{cornerAt, ownAt, askedAt, fittedAt}
-use Rattle.cut.specs.Rows.{rowAt, askedOf, rowOf, rowHeld, fittedOf, HoldsRows}
+use Rattle.cut.specs.Rows.{rowAt, askedOf, rowOf, RowHeld, fittedOf, HoldsRows}
 use Rattle.cut.proofs.Steps.{not-both, prev-lt, next-lt, near-more, near-prev, near-next}
 use Rattle.cut.proofs.Follow.{cond-same, inner}
 
--- ---- no corner, or a long first side and these fields
-abbrev Found : P → Side → Side → Corner → Type 0
-Found at su sv c =
-    (lt CEPS (c .lu) ≡ true) × (record { found = true; at = at; u = c .u; v = c .v; lu = c .lu; lv = c .lv; «side_u» = su; «side_v» = sv } ≡ c)
+-- ---- no corner, or one with these fields and these sides, measured
+abbrev Found : ℕ → P → Side → Side → Corner → Type 0
+Found chords at su sv c =
+    (c .found ≡ true)
+    × (record { found = true; at = at; u = c .u; v = c .v; lu = lengthOf chords su; lv = lengthOf chords sv; «side_u» = su; «side_v» = sv } ≡ c)
 
-abbrev Judged : P → Side → Side → Corner → Type 0
-Judged at su sv c = (noCorner ≡ c) ⊎ Found at su sv c
+abbrev Judged : ℕ → P → Side → Side → Corner → Type 0
+Judged chords at su sv c = (noCorner ≡ c) ⊎ Found chords at su sv c
 
-long : (c : Corner) → sharp c ≡ true → lt CEPS (c .lu) ≡ true
-unfolding sharp
-long c e = go (lt CEPS (c .lu)) e
-  where
-    go : (b : Bool) → (b && lt CEPS (c .lv) && isFinite (c .lu) && isFinite (c .lv) && lt 1e-6 (sin c)) ≡ true → b ≡ true
-    go true h = refl
-    go false h = h
-
-meet-judged : (chords : ℕ) (at u v : P) (su sv : Side) → Judged at su sv (meet chords at u v su sv)
+meet-judged : (chords : ℕ) (at u v : P) (su sv : Side) → Judged chords at su sv (meet chords at u v su sv)
 unfolding meet
-meet-judged chords at u v su sv = go (sharp c) refl
+meet-judged chords at u v su sv = go (sharp c)
   where
     c : Corner
     c = record { found = true; at = at; u = u; v = v; lu = lengthOf chords su; lv = lengthOf chords sv; «side_u» = su; «side_v» = sv }
 
-    go : (b : Bool) → sharp c ≡ b → Judged at su sv (cond b c noCorner)
-    go true e = inr (long c e, refl)
-    go false e = inl refl
+    go : (b : Bool) → Judged chords at su sv (cond b c noCorner)
+    go true = inr (refl, refl)
+    go false = inl refl
 
-between-judged : (chords : ℕ) (at : P) (su sv : Side) (d e : Direction) → Judged at su sv (between chords at su sv d e)
+between-judged : (chords : ℕ) (at : P) (su sv : Side) (d e : Direction) → Judged chords at su sv (between chords at su sv d e)
 unfolding between
 between-judged chords at su sv (Along u) (Along v) = meet-judged chords at u v su sv
 between-judged chords at su sv (Along u) Nowhere = inl refl
 between-judged chords at su sv Nowhere e = inl refl
 
-of-judged : (chords : ℕ) (a p q : Anchor) → Judged (a .p) (sideU a p) (sideV a q) (cornerOf chords a p q)
+of-judged : (chords : ℕ) (a p q : Anchor) → Judged chords (a .p) (sideU a p) (sideV a q) (cornerOf chords a p q)
 unfolding cornerOf
 of-judged chords a p q = go (isSmooth a)
   where
@@ -71,39 +62,45 @@ of-judged chords a p q = go (isSmooth a)
     sv : Side
     sv = sideV a q
 
-    go : (b : Bool) → Judged (a .p) su sv (cond b noCorner (between chords (a .p) su sv (direction su) (direction sv)))
+    go : (b : Bool) → Judged chords (a .p) su sv (cond b noCorner (between chords (a .p) su sv (direction su) (direction sv)))
     go true = inl refl
     go false = between-judged chords (a .p) su sv (direction su) (direction sv)
 
 module _ (v : View) (i : ℕ) where
-  judged : Judged (v .anchor i .p) (sideU (v .anchor i) (v .anchor (prev (v .n) i))) (sideV (v .anchor i) (v .anchor (next (v .n) i))) (cornerAt v i)
+  judged : Judged (v .chords) (v .anchor i .p) (sideU (v .anchor i) (v .anchor (prev (v .n) i))) (sideV (v .anchor i) (v .anchor (next (v .n) i))) (cornerAt v i)
   unfolding cornerAt
   judged = go (arrives v i && leaves v i)
     where
-      go : (b : Bool) → Judged (v .anchor i .p) (sideU (v .anchor i) (v .anchor (prev (v .n) i))) (sideV (v .anchor i) (v .anchor (next (v .n) i)))
+      go : (b : Bool) → Judged (v .chords) (v .anchor i .p) (sideU (v .anchor i) (v .anchor (prev (v .n) i))) (sideV (v .anchor i) (v .anchor (next (v .n) i)))
           (cond b (cornerOf (v .chords) (v .anchor i) (v .anchor (prev (v .n) i)) (v .anchor (next (v .n) i))) noCorner)
       go true = of-judged (v .chords) (v .anchor i) (v .anchor (prev (v .n) i)) (v .anchor (next (v .n) i))
       go false = inl refl
 
-  short-none : noCorner ≡ cornerAt v i → lt CEPS (cornerAt v i .lu) ≡ false
-  unfolding lt ofBits
-  short-none e = rw (← e)
+  pub none-of : cornerAt v i .found ≡ false → noCorner ≡ cornerAt v i
+  none-of e = ⊎-elim (λ h. h) (λ h. absurd (not-both (cornerAt v i .found) e (h .0))) judged
 
-  pub none-of : lt CEPS (cornerAt v i .lu) ≡ false → noCorner ≡ cornerAt v i
-  none-of e = ⊎-elim (λ h. h) (λ h. absurd (not-both (lt CEPS (cornerAt v i .lu)) e (h .0))) judged
-
-  pub corner-of : lt CEPS (cornerAt v i .lu) ≡ true
+  pub corner-of : cornerAt v i .found ≡ true
       → record {
         found = true;
         at = v .anchor i .p;
         u = cornerAt v i .u;
         v = cornerAt v i .v;
-        lu = cornerAt v i .lu;
-        lv = cornerAt v i .lv;
+        lu = lengthOf (v .chords) (sideU (v .anchor i) (v .anchor (prev (v .n) i)));
+        lv = lengthOf (v .chords) (sideV (v .anchor i) (v .anchor (next (v .n) i)));
         «side_u» = sideU (v .anchor i) (v .anchor (prev (v .n) i));
         «side_v» = sideV (v .anchor i) (v .anchor (next (v .n) i));
       } ≡ cornerAt v i
-  corner-of e = ⊎-elim (λ h. absurd (not-both (lt CEPS (cornerAt v i .lu)) (short-none h) e)) (λ h. h .1) judged
+  corner-of e = ⊎-elim (λ h. absurd (not-both (cornerAt v i .found) (sym (ap (λ (c : Corner). c .found) h)) e)) (λ h. h .1) judged
+
+  -- what is known of a corner before its sides are measured makes its row
+  pub row-held : (c : Corner) → withLengths (v .chords) c ≡ cornerAt v i → lt CEPS (c .lu) ≡ c .found → RowHeld v i (rowOf c (v .radius i))
+  unfolding withLengths rowOf askedOf askedAt ownAt setback cos sin
+  row-held c e f = record {
+    found = f ∙ ap (λ (k : Corner). k .found) e;
+    along-u = ap (λ (k : Corner). k .u) e;
+    along-v = ap (λ (k : Corner). k .v) e;
+    asked = ap (λ (k : Corner). askedOf k (v .radius i)) e;
+  }
 
   -- the neighbours are asked only where there is a corner, and then both are
   fitted-of : (x y : Float) → (cornerAt v i .found ≡ true → (x ≡ askedAt v (prev (v .n) i)) × (y ≡ askedAt v (next (v .n) i)))
@@ -117,15 +114,14 @@ module _ (v : View) (i : ℕ) where
 -- ---- an index within one step more than the reach, where the rows are held within two
 module _ (v : View) (k at : ℕ) (rows : List Float) (inside : at ≤ v .n) (i : ℕ) (l : i < v .n) (e : near (k + 1) (v .n) (v .closed) at i ≡ true)
     (h : HoldsRows v (k + 2) at rows) where
-  held : (j : ℕ) → j < v .n → near (suc (k + 1)) (v .n) (v .closed) at j ≡ true → rowAt rows j ≡ rowHeld v j
+  held : (j : ℕ) → j < v .n → near (suc (k + 1)) (v .n) (v .closed) at j ≡ true → RowHeld v j (rowAt rows j)
   held j b q = let z : k + 2 ≡ suc (k + 1) = omega arith in h .row j b (rw z q)
 
-  pub row-here : rowAt rows i ≡ rowHeld v i
+  pub row-here : RowHeld v i (rowAt rows i)
   row-here = held i l (near-more (k + 1) (v .n) (v .closed) at i e)
 
   asked-held : (j : ℕ) → j < v .n → near (suc (k + 1)) (v .n) (v .closed) at j ≡ true → rowAt rows j .asked ≡ askedAt v j
-  unfolding rowHeld rowOf askedOf askedAt ownAt
-  asked-held j b q = ap (λ (r : Row). r .asked) (held j b q)
+  asked-held j b q = held j b q .asked
 
   pub fitted-held : fittedOf (cornerAt v i) (v .radius i) (rowAt rows (prev (v .n) i) .asked) (rowAt rows (next (v .n) i) .asked) ≡ fittedAt v i
   unfolding arrives leaves

@@ -1,5 +1,5 @@
 -- `passes::corners::find_corners` meets its contract: before index i the rows below it that are near are held. Assumes nothing.
-use mathlib.Core.Path.{_≡_, refl, ap, _∙_}
+use mathlib.Core.Path.{_≡_, refl, ap, sym, _∙_, subst}
 use mathlib.Core.Bool.{true, false}
 use Prim.Native.Nat.{ℕ, _+_, _-_, _*_, _≤_, _<_}
 use native.Mathlib.Omega.{arith}
@@ -10,12 +10,12 @@ use borrow.Author.Tests.{not-true}
 use Rattle.views.specs.View.{entry}
 use Rattle.path.specs.Flat.{anchorAt}
 use Rattle.corner.specs.declared.cut.CornerKind.{CornerKind}
-use Rattle.corner.specs.declared.corner.Corner.{Corner}
 use Rattle.cut.specs.Subpath.{viewOf}
 use Rattle.cut.specs.Near.{near}
-use Rattle.cut.specs.Rows.{rowAt, rowOf, rowHeld}
+use Rattle.cut.specs.Rows.{rowAt, RowHeld}
 use Rattle.cut.proofs.Steps.{not-both, near-span, before-span, span-in}
 use Rattle.cut.proofs.HeldRows.{at-put-row, at-put-row-other}
+use Rattle.passes.proofs.FoundCorners.{row-held}
 use Rattle.passes.proofs.corners.find_corners.Statement.{statement}
 use Rattle.passes.proofs.corners.find_corners.Tie as tie
 
@@ -23,7 +23,7 @@ abbrev Inv-loop : tie.InvT-loop
 Inv-loop anchors radii sub w rows₀ first n i₀ end rows i =
     (i ≤ n) × (length rows ≡ length rows₀) × (first + n ≤ 1024) × (first + n ≤ length radii) × (n * 7 ≤ length rows)
     × ((kind : ℕ → CornerKind) (j : ℕ) → j < i → near (w .reach + 2) n (sub .closed) (w .at) j ≡ true
-    → rowAt rows j ≡ rowHeld (viewOf (anchorAt anchors) (entry radii) kind 128 sub) j)
+    → RowHeld (viewOf (anchorAt anchors) (entry radii) kind 128 sub) j (rowAt rows j))
     × (end ≤ n)
 
 abbrev μ-loop : tie.MeasureT-loop
@@ -59,7 +59,7 @@ loop-again c =
     (omega arith, i .1, i .2, i .3, i .4, λ kind. below-more _ _ (i .5 kind) (λ f. absurd (not-both (p (l .i)) e f)), i .6)
 
 loop-again-2 : tie.Need-loop-again-2 Inv-loop μ-loop
-unfolding rowHeld viewOf
+unfolding viewOf
 loop-again-2 c =
     let g = c .before .before in
     let r = g .before in
@@ -74,12 +74,10 @@ loop-again-2 c =
       i .3,
       (let k = g .put-row .kept .0 in omega arith),
       λ kind. below-more _ _
-          (λ j h f. ap (λ z. rowAt z j) (g .put-row .ensures) ∙ at-put-row-other (l .rows) (l .i) x j (λ s. omega arith) ∙ i .5 kind j h f)
+          (λ j h f. subst (RowHeld _ j) (sym (ap (λ z. rowAt z j) (g .put-row .ensures) ∙ at-put-row-other (l .rows) (l .i) x j (λ s. omega arith))) (i .5 kind j h f))
           (λ f.
-          ap (λ z. rowAt z (l .i)) (g .put-row .ensures)
-          ∙ at-put-row (l .rows) (l .i) x (omega arith)
-          ∙ r .row-of .ensures
-          ∙ ap (λ (k : Corner). rowOf k (entry (a .radii .now) (a .sub .first + l .i))) (q .corner-at .ensures (entry (a .radii .now)) kind)),
+          subst (RowHeld _ (l .i)) (sym (ap (λ z. rowAt z (l .i)) (g .put-row .ensures) ∙ at-put-row (l .rows) (l .i) x (omega arith) ∙ r .row-of .ensures))
+          (row-held _ (l .i) (q .corner-at .result) (q .corner-at .ensures .0 (entry (a .radii .now)) kind) (q .corner-at .ensures .1))),
       i .6,
     )
 

@@ -1,5 +1,5 @@
 -- `passes::cuts::make_cuts` meets its contract: before index i the marks and cuts below it that are near are held. Assumes nothing.
-use mathlib.Core.Path.{_≡_, refl, sym, ap, ap₂, _∙_}
+use mathlib.Core.Path.{_≡_, refl, sym, ap, ap₂, subst, _∙_}
 use mathlib.Core.Bool.{true, false}
 use Prim.Native.Nat.{ℕ, _+_, _-_, _*_, _≤_, _<_}
 use native.Mathlib.Omega.{arith}
@@ -18,7 +18,7 @@ use Rattle.cut.specs.View.{View}
 use Rattle.cut.specs.Subpath.{viewOf}
 use Rattle.cut.specs.Near.{near}
 use Rattle.cut.specs.Places.{cornerAt, fittedAt, isCut, cutAt}
-use Rattle.cut.specs.Rows.{cutRowAt, flagOf}
+use Rattle.cut.specs.Rows.{RowHeld, cutRowAt, flagOf}
 use Rattle.cut.proofs.Steps.{not-both, near-span, before-span, span-in}
 use Rattle.cut.proofs.HeldRows.{at-put-cut, at-put-cut-other}
 use Rattle.passes.proofs.FoundCorners.{row-here, fitted-held}
@@ -26,17 +26,17 @@ use Rattle.passes.proofs.cuts.make_cuts.Statement.{statement}
 use Rattle.passes.proofs.cuts.make_cuts.Tie as tie
 
 abbrev Inv-loop : tie.InvT-loop
-Inv-loop anchors radii kind sub w rows cuts₀ marks₀ first n i₀ end cuts marks i =
+Inv-loop anchors radii kind sub w rows cuts₀ marks₀ tu₀ tv₀ first n i₀ end cuts marks tu tv i =
     (i ≤ n) × (length cuts ≡ length cuts₀) × (length marks ≡ length marks₀)
     × (first + n ≤ 1024) × (first + n ≤ length radii) × (n * 7 ≤ length rows) × (n * 10 ≤ length cuts) × (n ≤ length marks)
     × ((j : ℕ) → j < i → near (w .reach + 1) n (sub .closed) (w .at) j ≡ true
     → getD marks j 0 ≡ flagOf (isCut (viewOf (anchorAt anchors) (entry radii) (λ k. kind) 128 sub) j))
     × ((j : ℕ) → j < i → near (w .reach + 1) n (sub .closed) (w .at) j ≡ true → let v = viewOf (anchorAt anchors) (entry radii) (λ k. kind) 128 sub in isCut v j ≡ true
     → cutRowAt cuts j ≡ cutAt v j)
-    × (end ≤ n)
+    × (end ≤ n) × (length tu ≡ 129) × (length tv ≡ 129)
 
 abbrev μ-loop : tie.MeasureT-loop
-μ-loop anchors radii kind sub w rows cuts₀ marks₀ first n i₀ end cuts marks i = n - i
+μ-loop anchors radii kind sub w rows cuts₀ marks₀ tu₀ tv₀ first n i₀ end cuts marks tu tv i = n - i
 
 loop-holds : tie.Need-loop-holds Inv-loop μ-loop
 loop-holds c =
@@ -59,6 +59,8 @@ loop-holds c =
       λ j l f. absurd (not-both _ (b j l) f),
       λ j l f. absurd (not-both _ (b j l) f),
       rw e (q .1),
+      refl,
+      refl,
     )
 
 loop-again : tie.Need-loop-again Inv-loop μ-loop
@@ -80,6 +82,8 @@ loop-again c =
       below-more _ _ (i .8) (λ f. absurd (not-both (p (l .i)) e f)),
       below-more _ _ (i .9) (λ f. absurd (not-both (p (l .i)) e f)),
       i .10,
+      i .11,
+      i .12,
     )
 
 -- ---- what was computed at index i is what the definitions say
@@ -95,33 +99,44 @@ close : (c : tie.Else1 Inv-loop μ-loop) →
     near (a .w .reach + 1) (a .sub .n) (a .sub .closed) (a .w .at) (l .before .loop .i) ≡ true
 close c = rw (← c .before .near .ensures) (not-false _ (c .if1 .left))
 
-corner-is : (c : tie.After-corner-of-row Inv-loop μ-loop) → let l = c .before .before .before .before .before in c .corner-of-row .result ≡ cornerAt (view l) (l .before .loop .i)
+corner-is : (c : tie.After-corner-of-row Inv-loop μ-loop) → let l = c .before .before .before .before .before .before .before in c .corner-of-row .result ≡ cornerAt (view l) (l .before .loop .i)
 unfolding viewOf
 corner-is c =
-    let f = c .before .before in
+    let r = c .before .before .before in
+    let f = r .before in
     let l = f .before .before .before in
     let s = l .before .before .before .before .before .before .before .before .before in
     let a = s .args in
-    c .corner-of-row .ensures (entry (a .radii .now)) (λ k. a .kind)
-    (c .before .row-at .ensures ∙ row-here (view l) (a .w .reach) (a .w .at) (a .rows .now) (s .pre .0 .1 .index) (l .before .loop .i) (within l) (close f) (s .pre .1 .1))
+    c .corner-of-row .ensures .0 (entry (a .radii .now)) (λ k. a .kind)
+    (subst (RowHeld _ _) (sym (r .row-at .ensures))
+    (row-here (view l) (a .w .reach) (a .w .at) (a .rows .now) (s .pre .0 .1 .index) (l .before .loop .i) (within l) (close f) (s .pre .1 .1)))
 
-fitted-is : (c : tie.After-fitted-beside Inv-loop μ-loop) → let l = c .before .before .before .before .before .before .before in c .fitted-beside .result ≡ fittedAt (view l) (l .before .loop .i)
+fitted-is : (c : tie.After-fitted-beside Inv-loop μ-loop) → let l = c .before .before .before .before .before .before .before .before .before .before .before in c .fitted-beside .result ≡ fittedAt (view l) (l .before .loop .i)
 unfolding viewOf
 fitted-is c =
-    let q = c .before .before in
-    let f = q .before .before in
+    let q = c .before .before .before .before in
+    let f = q .before .before .before .before in
     let l = f .before .before .before in
     let s = l .before .before .before .before .before .before .before .before .before in
     let a = s .args in
     rw (c .fitted-beside .ensures, corner-is q)
     (fitted-held (view l) (a .w .reach) (a .w .at) (a .rows .now) (s .pre .0 .1 .index) (l .before .loop .i) (within l) (close f) (s .pre .1 .1))
 
+-- the tables keep their length
+tables : (c : tie.After-fitted-beside Inv-loop μ-loop) → let q = c .before .before .before .before in
+    (length (q .corner-of-row .last .1 .1 .1 .1 .0) ≡ 129) × (length (q .corner-of-row .last .1 .1 .1 .1 .1 .0) ≡ 129)
+tables c =
+    let q = c .before .before .before .before in
+    let i = q .before .before .before .before .before .before .before .before .loop .inv in
+    (q .corner-of-row .kept .1 .1 .1 .1 .0 ∙ i .11, q .corner-of-row .kept .1 .1 .1 .1 .1 .0 ∙ i .12)
+
 loop-again-2 : tie.Need-loop-again-2 Inv-loop μ-loop
 unfolding isCut
 loop-again-2 c =
     let f = c .before in
-    let l = f .before .before .before .before .before .before .before .before .loop in
+    let l = f .before .before .before .before .before .before .before .before .before .before .before .before .loop in
     let i = l .inv in
+    let b = within (f .before .before .before .before .before .before .before .before .before .before .before) in
     let e = sym (ap (lt CEPS) (fitted-is f)) ∙ not-true _ (c .if2 .taken) in (
       omega arith,
       i .1,
@@ -134,6 +149,8 @@ loop-again-2 c =
       below-more _ _ (λ j h k. getD-set-other (l .marks) (l .i) j 0 0 (λ s. omega arith) ∙ i .8 j h k) (λ k. getD-set-same (l .marks) (l .i) 0 0 (omega arith) ∙ sym (ap flagOf e)),
       below-more _ _ (i .9) (λ k q. absurd (not-both _ e q)),
       i .10,
+      tables f .0,
+      tables f .1,
     )
 
 loop-again-3 : tie.Need-loop-again-3 Inv-loop μ-loop
@@ -141,12 +158,12 @@ unfolding isCut cutAt viewOf
 loop-again-3 c =
     let p = c .before .before in
     let k = p .before in
-    let t = k .before .before in
+    let t = k .before .before .before .before in
     let f = t .before in
-    let l = f .before .before .before .before .before .before .before .before .loop in
+    let l = f .before .before .before .before .before .before .before .before .before .before .before .before .loop in
     let i = l .inv in
-    let b = within (f .before .before .before .before .before .before .before) in
-    let a = f .before .before .before .before .before .before .before .before .before .before .before .before .before .before .before .before .args in
+    let b = within (f .before .before .before .before .before .before .before .before .before .before .before) in
+    let a = f .before .before .before .before .before .before .before .before .before .before .before .before .before .before .before .before .before .before .before .before .args in
     let e = sym (ap (lt CEPS) (fitted-is f)) ∙ not-false _ (t .if2 .left) in (
       omega arith,
       p .put-cut-row .kept .0 ∙ i .1,
@@ -165,8 +182,10 @@ loop-again-3 c =
           ap (λ z. cutRowAt z (l .i)) (p .put-cut-row .ensures)
           ∙ at-put-cut (l .cuts) (l .i) (k .cut .result) (omega arith)
           ∙ k .cut .ensures
-          ∙ ap₂ (λ (x : Corner) (r : Float). cut 128 x r (a .kind)) (corner-is (f .before .before)) (fitted-is f)),
+          ∙ ap₂ (λ (x : Corner) (r : Float). cut 128 x r (a .kind)) (corner-is (f .before .before .before .before)) (fitted-is f)),
       i .10,
+      tables f .0,
+      tables f .1,
     )
 
 returns : tie.Need-returns Inv-loop μ-loop
@@ -194,6 +213,8 @@ make-cuts-spec =
     (λ c. search needs)
     loop-again
     (λ c κs. search needs)
+    (λ c. sym (c .before .before .before .before .before .before .loop .inv .11))
+    (λ c. sym (c .before .before .before .before .before .before .before .loop .inv .12))
     (λ c κs. search needs)
     (λ c. search needs)
     (λ c. search needs)
@@ -204,12 +225,12 @@ make-cuts-spec =
     (λ c. search needs)
     (λ c. search needs)
     loop-again-2
-    (λ c κs. tt)
-    (λ c κs. let l = c .before .before .before .before .before .before .before .before .before .before in let b = within l in let i = l .before .loop .inv in omega arith)
-    (λ c. let l = c .before .before .before .before .before .before .before .before .before .before .before .before .before in let b = within l in let i = l .before .loop .inv in omega arith)
-    (λ c. let l = c .before .before .before .before .before .before .before .before .before .before .before .before .before in let b = within l in let i = l .before .loop .inv in omega arith)
-    (λ c. let l = c .before .before .before .before .before .before .before .before .before .before .before .before .before in let b = within l in let i = l .before .loop .inv in omega arith)
-    (λ c. let l = c .before .before .before .before .before .before .before .before .before .before .before .before .before in let b = within l in let i = l .before .loop .inv in omega arith)
+    (λ c κs. let q = c .before .before .before .before .before .before .before .before in (q .corner-of-row .ensures .1 .0, q .corner-of-row .ensures .1 .1))
+    (λ c κs. let l = c .before .before .before .before .before .before .before .before .before .before .before .before .before .before .before .before in let b = within l in let i = l .before .loop .inv in omega arith)
+    (λ c. let l = c .before .before .before .before .before .before .before .before .before .before .before .before .before .before .before .before .before .before .before in let b = within l in let i = l .before .loop .inv in omega arith)
+    (λ c. let l = c .before .before .before .before .before .before .before .before .before .before .before .before .before .before .before .before .before .before .before in let b = within l in let i = l .before .loop .inv in omega arith)
+    (λ c. let l = c .before .before .before .before .before .before .before .before .before .before .before .before .before .before .before .before .before .before .before in let b = within l in let i = l .before .loop .inv in omega arith)
+    (λ c. let l = c .before .before .before .before .before .before .before .before .before .before .before .before .before .before .before .before .before .before .before in let b = within l in let i = l .before .loop .inv in omega arith)
     loop-again-3
     (λ c. search needs)
     (λ c. search needs)
