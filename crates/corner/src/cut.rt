@@ -43,7 +43,13 @@ pub struct Lengths {
 
 impl Corner {
     // The cut of this radius: where it meets the sides, by their tables, and its handles.
-    pub fn cut(self, radius: f64, kind: CornerKind, table_u: &[f64; 129], table_v: &[f64; 129]) -> Cut
+    pub fn cut(
+        self,
+        radius: f64,
+        kind: CornerKind,
+        table_u: &[f64; 129],
+        table_v: &[f64; 129],
+    ) -> Cut
         requires { ⌜ Serves 128 (now «table_u») (self .«side_u») × Serves 128 (now «table_v») (self .«side_v») ⌝ }
         ensures { λ r. ⌜ r ≡ cut 128 self radius kind ⌝ }
     {

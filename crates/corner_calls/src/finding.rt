@@ -1,8 +1,6 @@
 // The search for a path's corners, subpath by subpath.
 ghost use mathlib.Core.Path.{_≡_};
-ghost use mathlib.Core.Bool.{_&&_, _||_};
 ghost use Prim.Native.Nat.{_+_, _*_, _≤_, _<_};
-ghost use lib.Dec.{ltb};
 ghost use lib.ListN.{length};
 ghost use Rattle.path.specs.Shape.{countOf, total, wordAt, start};
 ghost use Rattle.cut.specs.Subpath.{Fits};
@@ -11,29 +9,12 @@ ghost use Rattle.corner_calls.specs.Corners.{plainView, pathCorner, putC
 use corner::Corner;
 use cut::Sub;
 
-// Whether index i has a neighbour on either side: an open subpath's ends have not.
-fn has_neighbours(sub: Sub, i: usize) -> bool
-    requires { ⌜ i < sub .n ⌝ }
-    ensures { λ r. ⌜ r ≡ ((sub .closed || ltb 0 i) && (sub .closed || ltb (i + 1) (sub .n))) ⌝ }
-{
-    if sub.closed {
-        return true;
-    }
-    0 < i && i + 1 < sub.n
-}
-
-// The corner at index i of a subpath, if there is one.
+// The corner at index i of a subpath, if there is one, with its sides' lengths.
 fn corner_at(anchors: &[f64], sub: Sub, i: usize) -> Corner
     requires { ⌜ Fits sub (length (now anchors)) × (i < sub .n) ⌝ }
     ensures { λ r. ⌜ r ≡ cornerAt (plainView (now (anchors .entry)) sub) i ⌝ }
 {
-    if !has_neighbours(sub, i) {
-        return Corner::none();
-    }
-    let a = path::anchor_at(anchors, sub.first + i);
-    let prev = path::anchor_at(anchors, sub.first + path::prev(sub.n, i));
-    let next = path::anchor_at(anchors, sub.first + path::next(sub.n, i));
-    Corner::of(a, prev, next)
+    cut::corner_at(anchors, sub, i).measured()
 }
 
 // Puts a corner's nine numbers. Its largest radius takes the lengths that it holds.

@@ -21,14 +21,14 @@ const CHORDS: usize = 128;
 pub fn curve_length(c: [P; 4]) -> f64
     ensures { λ r. ⌜ r ≡ running (chord c 128) 128 ⌝ }
 {
-    let mut sum = 0.0;
+    let mut len = 0.0;
     let mut p = cubic::step_at(c, CHORDS, 0);
     for k in 0..CHORDS {
         let q = cubic::step_at(c, CHORDS, k + 1);
-        sum = sum + p.dist(q);
+        len = len + p.dist(q);
         p = q;
     }
-    sum
+    len
 }
 
 // Whether the chords of a curve in limit add up to more than 1e-9: no sum is below the one before it, so the first above 1e-9 tells.
@@ -36,12 +36,12 @@ pub fn is_long_curve(c: [P; 4]) -> bool
     requires { ⌜ curveIn c ≡ true ⌝ }
     ensures { λ r. ⌜ r ≡ longEnough (running (chord c 128) 128) ⌝ }
 {
-    let mut sum = 0.0;
+    let mut so_far = 0.0;
     let mut p = cubic::step_at(c, CHORDS, 0);
     for k in 0..CHORDS {
         let q = cubic::step_at(c, CHORDS, k + 1);
-        sum = sum + p.dist(q);
-        if 1e-9 < sum {
+        so_far = so_far + p.dist(q);
+        if 1e-9 < so_far {
             return true;
         }
         p = q;

@@ -21,8 +21,7 @@ after-in c = let s = c .before .before .before .before .before .before .before .
 returns : tie.Need-returns
 unfolding cornerAt arrives leaves viewOf
 returns c =
-    let t = c .before in
-    (
+    let t = c .before in (
       λ radius kind. none-is _ _ (c .none .ensures) (rw (← t .before .arrives .ensures, not-true (t .before .arrives .result) (t .if1 .taken))),
       none-found _ (c .none .ensures),
     )
@@ -31,8 +30,7 @@ returns-2 : tie.Need-returns-2
 unfolding cornerAt arrives leaves viewOf
 returns-2 c =
     let t = c .before in
-    let f = t .before .before in
-    (
+    let f = t .before .before in (
       λ radius kind. none-is _ _ (c .none2 .ensures)
           (rw (← f .before .arrives .ensures, not-false (f .before .arrives .result) (f .if1 .left), ← t .before .leaves .ensures, not-true (t .before .leaves .result) (t .if2 .taken))),
       none-found _ (c .none2 .ensures),
@@ -44,20 +42,19 @@ returns-3 c =
     let n = c .before .before .before in
     let p = n .before .before .before in
     let g = p .before .before .before in
-    let f = g .before .before in
-    (
+    let f = g .before .before in (
       λ radius kind. rw (
-      ← f .before .arrives .ensures,
-      not-false (f .before .arrives .result) (f .if1 .left),
-      ← g .before .leaves .ensures,
-      not-false (g .before .leaves .result) (g .if2 .left),
-      c .of .ensures .0,
-      c .before .anchor-at3 .ensures,
-      n .next .ensures,
-      n .before .anchor-at2 .ensures,
-      p .prev .ensures,
-      p .before .anchor-at .ensures,
-    ),
+        ← f .before .arrives .ensures,
+        not-false (f .before .arrives .result) (f .if1 .left),
+        ← g .before .leaves .ensures,
+        not-false (g .before .leaves .result) (g .if2 .left),
+        c .of .ensures .0,
+        c .before .anchor-at3 .ensures,
+        n .next .ensures,
+        n .before .anchor-at2 .ensures,
+        p .prev .ensures,
+        p .before .anchor-at .ensures,
+      ),
       c .of .ensures .1,
     )
 

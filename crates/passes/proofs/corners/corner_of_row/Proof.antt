@@ -21,8 +21,7 @@ after-in c = let s = c .before .before .before .before .before .before .before .
 
 returns : tie.Need-returns
 returns c =
-    let a = c .before .before .before .before .before .before .args in
-    (
+    let a = c .before .before .before .before .before .before .args in (
       λ radius kind h. c .none .ensures ∙ none-of (viewOf (anchorAt (a .anchors .now)) radius kind 128 (a .sub)) (a .i) (sym (h .found) ∙ not-true _ (c .before .if1 .taken)),
       (none-served 128 _ _ (c .none .ensures) .0, none-served 128 _ _ (c .none .ensures) .1),
     )
@@ -37,8 +36,7 @@ returns-2 c =
     let n = x .before .before in
     let p = n .before .before .before in
     let g = p .before .before .before in
-    let a = g .before .before .before .before .before .args in
-    (
+    let a = g .before .before .before .before .before .args in (
       λ radius kind h. rw (
         m2 .measure2 .ensures .0,
         m .measure .ensures .0,
@@ -52,7 +50,7 @@ returns-2 c =
         h .along-u,
         h .along-v,
       )
-      (corner-of (viewOf (anchorAt (a .anchors .now)) radius kind 128 (a .sub)) (a .i) (sym (h .found) ∙ not-false _ (g .if1 .left))),
+          (corner-of (viewOf (anchorAt (a .anchors .now)) radius kind 128 (a .sub)) (a .i) (sym (h .found) ∙ not-false _ (g .if1 .left))),
       (m .measure .ensures .1, m2 .measure2 .ensures .1),
     )
 

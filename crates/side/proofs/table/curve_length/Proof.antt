@@ -1,4 +1,4 @@
--- `side::table::curve_length` meets its contract: after k chords the sum is theirs, and p the point at their end. Assumes nothing.
+-- `side::table::curve_length` meets its contract: after k chords the length is theirs, and p the point at their end. Assumes nothing.
 use mathlib.Core.Path.{_≡_, refl, ap, sym, _∙_}
 use Prim.Native.Nat.{_-_, _≤_}
 use native.Mathlib.Omega.{arith}
@@ -10,10 +10,10 @@ use Rattle.side.proofs.table.curve_length.Statement.{statement}
 use Rattle.side.proofs.table.curve_length.Tie as tie
 
 abbrev Inv-loop : tie.InvT-loop
-Inv-loop c sum₀ p₀ k₀ sum p k = (k ≤ 128) × (p ≡ stepAt c 128 k) × (sum ≡ running (chord c 128) k)
+Inv-loop c len₀ p₀ k₀ len p k = (k ≤ 128) × (p ≡ stepAt c 128 k) × (len ≡ running (chord c 128) k)
 
 abbrev μ-loop : tie.MeasureT-loop
-μ-loop c sum₀ p₀ k₀ sum p k = 128 - k
+μ-loop c len₀ p₀ k₀ len p k = 128 - k
 
 loop-holds : tie.Need-loop-holds Inv-loop μ-loop
 unfolding running

@@ -17,10 +17,10 @@ use Rattle.side.proofs.table.is_long_curve.Statement.{statement}
 use Rattle.side.proofs.table.is_long_curve.Tie as tie
 
 abbrev Inv-loop : tie.InvT-loop
-Inv-loop c sum₀ p₀ k₀ sum p k = (k ≤ 128) × (p ≡ stepAt c 128 k) × (sum ≡ running (chord c 128) k) × (lt CEPS sum ≡ false)
+Inv-loop c far₀ p₀ k₀ far p k = (k ≤ 128) × (p ≡ stepAt c 128 k) × (far ≡ running (chord c 128) k) × (lt CEPS far ≡ false)
 
 abbrev μ-loop : tie.MeasureT-loop
-μ-loop c sum₀ p₀ k₀ sum p k = 128 - k
+μ-loop c far₀ p₀ k₀ far p k = 128 - k
 
 loop-holds : tie.Need-loop-holds Inv-loop μ-loop
 unfolding running lt ofBits
@@ -28,7 +28,7 @@ loop-holds c = (omega arith, c .step-at .ensures, refl, refl)
 
 -- one sum more
 next : (c : tie.After-dist Inv-loop μ-loop) → let l = c .before .before .before .loop in let a = c .before .before .before .before .before .args in
-    l .sum ⊕ c .dist .result ≡ running (chord (a .c) 128) (l .k + 1)
+    l .so-far ⊕ c .dist .result ≡ running (chord (a .c) 128) (l .k + 1)
 next c =
     let i = c .before .before .before .loop .inv in
     rw (c .dist .ensures, i .1, i .2, c .before .step-at2 .ensures) (sym (length-next _ 128 _))

@@ -46,8 +46,7 @@ returns-4 c =
     let u = dv .before .before in
     let du = u .before .before in
     let o = du .before .before in
-    let e = o .before .before in
-    (
+    let e = o .before .before in (
       rw (
         ← e .before .is-smooth .ensures,
         e .if1 .left,
@@ -58,7 +57,7 @@ returns-4 c =
         ← dv .direction2 .ensures .0,
         v .dv .given .1,
       )
-      (c .meet .ensures .0),
+          (c .meet .ensures .0),
       c .meet .ensures .1,
     )
 

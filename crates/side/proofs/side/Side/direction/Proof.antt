@@ -54,8 +54,7 @@ returns : tie.Need-returns Inv-loop μ-loop
 returns c =
     let b = c .before .before .before in
     let d = b .before .sub .ensures in
-    let l = b .before .before .before .before .before .loop in
-    (
+    let l = b .before .before .before .before .before .loop in (
       ap Along (made c ∙ ap unit d) ∙ found _ (l .k) (l .inv .0) (omega arith) (l .inv .2) (rw (b .beyond .ensures, d) at (c .before .before .if1 .taken)),
       λ u e. rw (c .before .len .ensures, ← b .beyond .ensures) (c .before .before .if1 .taken),
     )
