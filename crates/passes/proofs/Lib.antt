@@ -1,1 +1,2 @@
 pub mod FoundCorners
+pub mod SmallRadii

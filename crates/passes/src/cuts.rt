@@ -38,7 +38,7 @@ fn fitted_beside(c: Corner, radius: f64, rows: &[f64], n: usize, i: usize) -> f6
     fitted(c, radius, before.asked, after.asked)
 }
 
-// Each mark's top bit is 1 where there is a cut, and that cut's row is then in `cuts`.
+// Each mark's top bit is 1 where there is a cut, and that cut's row is then in `cuts`. Sides are measured only where a radius is set.
 pub fn make_cuts(
     anchors: &[f64],
     radii: &[f64],
@@ -65,8 +65,13 @@ pub fn make_cuts(
         if !near(w.reach + 1, n, sub.closed, w.at, i) {
             continue;
         }
+        let radius = radii[first + i];
+        if !(1e-9 < radius) {
+            marks[i] = 0;
+            continue;
+        }
         let c = corner_of_row(anchors, sub, i, row_at(rows, i), &mut table_u, &mut table_v);
-        let r = fitted_beside(c, radii[first + i], rows, n, i);
+        let r = fitted_beside(c, radius, rows, n, i);
         if !(1e-9 < r) {
             marks[i] = 0;
             continue;

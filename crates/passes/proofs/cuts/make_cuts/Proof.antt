@@ -22,6 +22,7 @@ use Rattle.cut.specs.Rows.{RowHeld, cutRowAt, flagOf}
 use Rattle.cut.proofs.Steps.{not-both, near-span, before-span, span-in}
 use Rattle.cut.proofs.HeldRows.{at-put-cut, at-put-cut-other}
 use Rattle.passes.proofs.FoundCorners.{row-here, fitted-held}
+use Rattle.passes.proofs.SmallRadii.{small-uncut}
 use Rattle.passes.proofs.cuts.make_cuts.Statement.{statement}
 use Rattle.passes.proofs.cuts.make_cuts.Tie as tie
 
@@ -99,11 +100,11 @@ close : (c : tie.Else1 Inv-loop μ-loop) →
     near (a .w .reach + 1) (a .sub .n) (a .sub .closed) (a .w .at) (l .before .loop .i) ≡ true
 close c = rw (← c .before .near .ensures) (not-false _ (c .if1 .left))
 
-corner-is : (c : tie.After-corner-of-row Inv-loop μ-loop) → let l = c .before .before .before .before .before .before .before in c .corner-of-row .result ≡ cornerAt (view l) (l .before .loop .i)
+corner-is : (c : tie.After-corner-of-row Inv-loop μ-loop) → let l = c .before .before .before .before .before .before .before .before .before in c .corner-of-row .result ≡ cornerAt (view l) (l .before .loop .i)
 unfolding viewOf
 corner-is c =
     let r = c .before .before .before in
-    let f = r .before in
+    let f = r .before .before .before in
     let l = f .before .before .before in
     let s = l .before .before .before .before .before .before .before .before .before in
     let a = s .args in
@@ -111,11 +112,11 @@ corner-is c =
     (subst (RowHeld _ _) (sym (r .row-at .ensures))
     (row-here (view l) (a .w .reach) (a .w .at) (a .rows .now) (s .pre .0 .1 .index) (l .before .loop .i) (within l) (close f) (s .pre .1 .1)))
 
-fitted-is : (c : tie.After-fitted-beside Inv-loop μ-loop) → let l = c .before .before .before .before .before .before .before .before .before .before .before in c .fitted-beside .result ≡ fittedAt (view l) (l .before .loop .i)
+fitted-is : (c : tie.After-fitted-beside Inv-loop μ-loop) → let l = c .before .before .before .before .before .before .before .before .before .before .before .before in c .fitted-beside .result ≡ fittedAt (view l) (l .before .loop .i)
 unfolding viewOf
 fitted-is c =
-    let q = c .before .before .before .before in
-    let f = q .before .before .before .before in
+    let q = c .before .before .before in
+    let f = q .before .before .before .before .before .before in
     let l = f .before .before .before in
     let s = l .before .before .before .before .before .before .before .before .before in
     let a = s .args in
@@ -123,21 +124,44 @@ fitted-is c =
     (fitted-held (view l) (a .w .reach) (a .w .at) (a .rows .now) (s .pre .0 .1 .index) (l .before .loop .i) (within l) (close f) (s .pre .1 .1))
 
 -- the tables keep their length
-tables : (c : tie.After-fitted-beside Inv-loop μ-loop) → let q = c .before .before .before .before in
+tables : (c : tie.After-fitted-beside Inv-loop μ-loop) → let q = c .before .before .before in
     (length (q .corner-of-row .last .1 .1 .1 .1 .0) ≡ 129) × (length (q .corner-of-row .last .1 .1 .1 .1 .1 .0) ≡ 129)
 tables c =
-    let q = c .before .before .before .before in
-    let i = q .before .before .before .before .before .before .before .before .loop .inv in
+    let q = c .before .before .before in
+    let i = q .before .before .before .before .before .before .before .before .before .before .loop .inv in
     (q .corner-of-row .kept .1 .1 .1 .1 .0 ∙ i .11, q .corner-of-row .kept .1 .1 .1 .1 .1 .0 ∙ i .12)
 
+-- ---- an index that is not cut
 loop-again-2 : tie.Need-loop-again-2 Inv-loop μ-loop
-unfolding isCut
+unfolding viewOf
 loop-again-2 c =
-    let f = c .before in
-    let l = f .before .before .before .before .before .before .before .before .before .before .before .before .loop in
+    let l = c .before .before .before .before .before .before .loop in
     let i = l .inv in
-    let b = within (f .before .before .before .before .before .before .before .before .before .before .before) in
-    let e = sym (ap (lt CEPS) (fitted-is f)) ∙ not-true _ (c .if2 .taken) in (
+    let b = within (c .before .before .before .before .before) in
+    let e = small-uncut (view (c .before .before .before .before .before)) (l .i) (not-true _ (c .if2 .taken)) in (
+      omega arith,
+      i .1,
+      simp length-set (i .2),
+      i .3,
+      i .4,
+      i .5,
+      i .6,
+      simp length-set (i .7),
+      below-more _ _ (λ j h k. getD-set-other (l .marks) (l .i) j 0 0 (λ s. omega arith) ∙ i .8 j h k) (λ k. getD-set-same (l .marks) (l .i) 0 0 (omega arith) ∙ sym (ap flagOf e)),
+      below-more _ _ (i .9) (λ k q. absurd (not-both _ e q)),
+      i .10,
+      i .11,
+      i .12,
+    )
+
+loop-again-3 : tie.Need-loop-again-3 Inv-loop μ-loop
+unfolding isCut
+loop-again-3 c =
+    let f = c .before in
+    let l = f .before .before .before .before .before .before .before .before .before .before .before .before .before .loop in
+    let i = l .inv in
+    let b = within (f .before .before .before .before .before .before .before .before .before .before .before .before) in
+    let e = sym (ap (lt CEPS) (fitted-is f)) ∙ not-true _ (c .if3 .taken) in (
       omega arith,
       i .1,
       simp length-set (i .2),
@@ -153,18 +177,18 @@ loop-again-2 c =
       tables f .1,
     )
 
-loop-again-3 : tie.Need-loop-again-3 Inv-loop μ-loop
+loop-again-4 : tie.Need-loop-again-4 Inv-loop μ-loop
 unfolding isCut cutAt viewOf
-loop-again-3 c =
+loop-again-4 c =
     let p = c .before .before in
     let k = p .before in
     let t = k .before .before .before .before in
     let f = t .before in
-    let l = f .before .before .before .before .before .before .before .before .before .before .before .before .loop in
+    let l = f .before .before .before .before .before .before .before .before .before .before .before .before .before .loop in
     let i = l .inv in
-    let b = within (f .before .before .before .before .before .before .before .before .before .before .before) in
-    let a = f .before .before .before .before .before .before .before .before .before .before .before .before .before .before .before .before .before .before .before .before .args in
-    let e = sym (ap (lt CEPS) (fitted-is f)) ∙ not-false _ (t .if2 .left) in (
+    let b = within (f .before .before .before .before .before .before .before .before .before .before .before .before) in
+    let a = f .before .before .before .before .before .before .before .before .before .before .before .before .before .before .before .before .before .before .before .before .before .args in
+    let e = sym (ap (lt CEPS) (fitted-is f)) ∙ not-false _ (t .if3 .left) in (
       omega arith,
       p .put-cut-row .kept .0 ∙ i .1,
       simp length-set (i .2),
@@ -182,7 +206,7 @@ loop-again-3 c =
           ap (λ z. cutRowAt z (l .i)) (p .put-cut-row .ensures)
           ∙ at-put-cut (l .cuts) (l .i) (k .cut .result) (omega arith)
           ∙ k .cut .ensures
-          ∙ ap₂ (λ (x : Corner) (r : Float). cut 128 x r (a .kind)) (corner-is (f .before .before .before .before)) (fitted-is f)),
+          ∙ ap₂ (λ (x : Corner) (r : Float). cut 128 x r (a .kind)) (corner-is (f .before .before .before)) (fitted-is f)),
       i .10,
       tables f .0,
       tables f .1,
@@ -212,26 +236,31 @@ make-cuts-spec =
     (λ c. search needs)
     (λ c. search needs)
     loop-again
-    (λ c κs. search needs)
-    (λ c. sym (c .before .before .before .before .before .before .loop .inv .11))
-    (λ c. sym (c .before .before .before .before .before .before .before .loop .inv .12))
-    (λ c κs. search needs)
     (λ c. search needs)
     (λ c. search needs)
     (λ c. search needs)
-    (λ c κs. search needs)
     (λ c. search needs)
     (λ c. search needs)
     (λ c. search needs)
     (λ c. search needs)
     loop-again-2
-    (λ c κs. let q = c .before .before .before .before .before .before .before .before in (q .corner-of-row .ensures .1 .0, q .corner-of-row .ensures .1 .1))
-    (λ c κs. let l = c .before .before .before .before .before .before .before .before .before .before .before .before .before .before .before .before in let b = within l in let i = l .before .loop .inv in omega arith)
-    (λ c. let l = c .before .before .before .before .before .before .before .before .before .before .before .before .before .before .before .before .before .before .before in let b = within l in let i = l .before .loop .inv in omega arith)
-    (λ c. let l = c .before .before .before .before .before .before .before .before .before .before .before .before .before .before .before .before .before .before .before in let b = within l in let i = l .before .loop .inv in omega arith)
-    (λ c. let l = c .before .before .before .before .before .before .before .before .before .before .before .before .before .before .before .before .before .before .before in let b = within l in let i = l .before .loop .inv in omega arith)
-    (λ c. let l = c .before .before .before .before .before .before .before .before .before .before .before .before .before .before .before .before .before .before .before in let b = within l in let i = l .before .loop .inv in omega arith)
+    (λ c κs. search needs)
+    (λ c. sym (c .before .before .before .before .before .before .before .before .loop .inv .11))
+    (λ c. sym (c .before .before .before .before .before .before .before .before .before .loop .inv .12))
+    (λ c κs. let l = c .before .before .before .before .before .before .before .before in let i = l .before .loop .inv in (l .before .before .before .before .before .before .before .before .before .pre .0 .0, within l, i .11, i .12))
+    (λ c κs. let l = c .before .before .before .before .before .before .before .before .before .before .before in (within l, l .before .loop .inv .5))
+    (λ c. let l = c .before .before .before .before .before .before .before .before .before .before .before .before .before in let b = within l in let i = l .before .loop .inv in omega arith)
+    (λ c. let l = c .before .before .before .before .before .before .before .before .before .before .before .before .before in let b = within l in let i = l .before .loop .inv in omega arith)
+    (λ c. let l = c .before .before .before .before .before .before .before .before .before .before .before .before .before in let b = within l in let i = l .before .loop .inv in omega arith)
+    (λ c. let l = c .before .before .before .before .before .before .before .before .before .before .before .before .before in let b = within l in let i = l .before .loop .inv in omega arith)
     loop-again-3
+    (λ c κs. let q = c .before .before .before .before .before .before .before in (q .corner-of-row .ensures .1 .0, q .corner-of-row .ensures .1 .1))
+    (λ c κs. let l = c .before .before .before .before .before .before .before .before .before .before .before .before .before .before .before .before .before in let b = within l in let i = l .before .loop .inv in omega arith)
+    (λ c. let l = c .before .before .before .before .before .before .before .before .before .before .before .before .before .before .before .before .before .before .before .before in let b = within l in let i = l .before .loop .inv in omega arith)
+    (λ c. let l = c .before .before .before .before .before .before .before .before .before .before .before .before .before .before .before .before .before .before .before .before in let b = within l in let i = l .before .loop .inv in omega arith)
+    (λ c. let l = c .before .before .before .before .before .before .before .before .before .before .before .before .before .before .before .before .before .before .before .before in let b = within l in let i = l .before .loop .inv in omega arith)
+    (λ c. let l = c .before .before .before .before .before .before .before .before .before .before .before .before .before .before .before .before .before .before .before .before in let b = within l in let i = l .before .loop .inv in omega arith)
+    loop-again-4
     (λ c. search needs)
     (λ c. search needs)
     returns)
