@@ -1,5 +1,6 @@
 -- Corners and the radii that fit them, after 000's `Corner`. Assumes nothing.
 use Prim.Native.Nat.{ℕ}
+use mathlib.Core.Path.{_≡_}
 use mathlib.Core.Bool.{Bool, true, false, _&&_, cond}
 use lib.Ieee.{Float, binary64, ofBits, lt}
 use Rattle.real.specs.Operators.{_⊕_, _⊖_, _⊗_, _⊘_, 0f, 1f, 2f}
@@ -14,7 +15,7 @@ use Rattle.side.specs.declared.side.Side.{Side}
 use Rattle.side.specs.declared.side.Direction.{Direction}
 use Rattle.side.specs.declared.side.Direction.the-variants.{Along, Nowhere}
 use Rattle.corner.specs.declared.corner.Corner.{Corner}
-use Rattle.side.specs.Side.{sideOf, direction, lengthOf}
+use Rattle.side.specs.Side.{sideOf, direction, lengthOf, OnLine}
 
 abbrev pub 1e-6 : Float
 1e-6 = ofBits binary64 0x3EB0_C6F7_A0B5_ED8D
@@ -38,7 +39,7 @@ sideU a prev = sideOf (a .p) (a .«h_in») (prev .«h_out») (prev .p)
 abbrev pub sideV : Anchor → Anchor → Side
 sideV a next = sideOf (a .p) (a .«h_out») (next .«h_in») (next .p)
 
--- a corner with its sides' lengths in place of hints at them
+-- a corner with its sides' lengths
 unfoldable pub withLengths : ℕ → Corner → Corner
 withLengths chords c = record {
   found = c .found;
@@ -50,6 +51,13 @@ withLengths chords c = record {
   «side_u» = c .«side_u»;
   «side_v» = c .«side_v»;
 }
+
+-- corner k before its curved sides are measured: in the place of their lengths are other numbers, the first above 1e-9 where there is a corner
+pub record Unmeasured (chords : ℕ) (c k : Corner) : Type 0 where
+  pub is : withLengths chords c ≡ k
+  pub found : lt CEPS (c .lu) ≡ c .found
+  pub line-u : OnLine chords (c .«side_u») (c .lu)
+  pub line-v : OnLine chords (c .«side_v») (c .lv)
 
 -- both sides are longer than 1e-9 and finite, and they meet at an angle
 unfoldable pub sharp : Corner → Bool

@@ -1,9 +1,6 @@
 // `Corner`: where two sides meet at an angle.
 ghost use mathlib.Core.Path.{_≡_};
-ghost use mathlib.Core.Bool.{true};
-ghost use lib.Ieee.{lt};
-ghost use Rattle.cubic.specs.Cubic.{CEPS};
-ghost use Rattle.corner.specs.Corner.{withLengths, cornerOf, meet, noCorner, sharp, cos, sin, setback, radiusAtSetback, maxRadius, room, maxRadiusBeside, onBisector, radiusChange};
+ghost use Rattle.corner.specs.Corner.{withLengths, Unmeasured, cornerOf, meet, noCorner, sharp, cos, sin, setback, radiusAtSetback, maxRadius, room, maxRadiusBeside, onBisector, radiusChange};
 use geom::P;
 use geom::cross;
 use path::Anchor;
@@ -24,11 +21,9 @@ pub struct Corner {
 }
 
 impl Corner {
-    // The corner that anchor a makes between its neighbours, its sides not yet measured: in the place of their lengths are hints at them,
-    // the first above 1e-9.
+    // The corner that anchor a makes between its neighbours, its curved sides not yet measured.
     pub fn of(a: Anchor, prev: Anchor, next: Anchor) -> Corner
-        ensures corner { λ r. ⌜ withLengths 128 r ≡ cornerOf 128 a prev next ⌝ }
-        ensures found { λ r. ⌜ lt CEPS (r .lu) ≡ r .found ⌝ }
+        ensures { λ r. ⌜ Unmeasured 128 r (cornerOf 128 a prev next) ⌝ }
     {
         if a.is_smooth() {
             return Corner::none();
@@ -49,19 +44,17 @@ impl Corner {
         Corner::meet(at, u, v, side_u, side_v, hu.far, hv.far)
     }
 
-    // The corner at which two sides leave in the directions u and v, with these hints at their lengths.
+    // The corner at which two sides leave in the directions u and v. The hints may be their lengths.
     fn meet(at: P, u: P, v: P, side_u: Side, side_v: Side, hint_u: f64, hint_v: f64) -> Corner
-        requires { ⌜ lt CEPS «hint_u» ≡ true ⌝ }
-        ensures corner { λ r. ⌜ withLengths 128 r ≡ meet 128 at u v «side_u» «side_v» ⌝ }
-        ensures found { λ r. ⌜ lt CEPS (r .lu) ≡ r .found ⌝ }
+        ensures { λ r. ⌜ Unmeasured 128 r (meet 128 at u v «side_u» «side_v») ⌝ }
     {
         let c = Corner {
             found: true,
             at: at,
             u: u,
             v: v,
-            lu: hint_u,
-            lv: hint_v,
+            lu: side_u.reach(hint_u),
+            lv: side_v.reach(hint_v),
             side_u: side_u,
             side_v: side_v,
         };
@@ -73,11 +66,13 @@ impl Corner {
 
     // Whether both sides are longer than 1e-9, and finite, and meet at an angle.
     fn sharp(self) -> bool
-        ensures { λ r. ⌜ r ≡ sharp (withLengths 128 self) ⌝ }
+        ensures { λ r. ⌜ r ≡ sharp self ⌝ }
     {
-        let side_u = self.side_u;
-        let side_v = self.side_v;
-        1e-6 < self.sin() && side_u.is_long(self.lu) && side_v.is_long(self.lv)
+        1e-9 < self.lu
+            && 1e-9 < self.lv
+            && real::is_finite(self.lu)
+            && real::is_finite(self.lv)
+            && 1e-6 < self.sin()
     }
 
     // The corner with its sides' lengths.

@@ -1,6 +1,7 @@
 // `Cut`: how a corner is cut.
 ghost use mathlib.Core.Path.{_≡_};
 ghost use Rattle.side.specs.Side.{Serves};
+ghost use Rattle.corner.specs.Corner.{withLengths};
 ghost use Rattle.corner.specs.Cut.{straightSides, crossAhead, tangentHandles, roundHandles, rounded, inverted, handles, cut};
 use crate::corner::Corner;
 use arc::arc_handle;
@@ -50,7 +51,7 @@ impl Corner {
         table_u: &[f64; 129],
         table_v: &[f64; 129],
     ) -> Cut
-        requires { ⌜ Serves 128 (now «table_u») (self .«side_u») × Serves 128 (now «table_v») (self .«side_v») ⌝ }
+        requires { ⌜ (withLengths 128 self ≡ self) × Serves 128 (now «table_u») (self .«side_u») × Serves 128 (now «table_v») (self .«side_v») ⌝ }
         ensures { λ r. ⌜ r ≡ cut 128 self radius kind ⌝ }
     {
         let s = self.setback(radius);

@@ -11,6 +11,7 @@ use Rattle.real.specs.Operators.{0f}
 use Rattle.real.specs.StandIns.{max, min}
 use Rattle.geom.specs.Point.{point}
 use Rattle.cubic.specs.Cubic.{CEPS}
+use Rattle.side.specs.Side.{OnLine}
 use Rattle.corner.specs.declared.corner.Corner.{Corner}
 use Rattle.corner.specs.declared.cut.Cut.{Cut}
 use Rattle.corner.specs.Corner.{setback, maxRadiusBeside}
@@ -25,13 +26,13 @@ abbrev pub rowAt : List Float → ℕ → Row
 rowAt xs i = record {
   u = point (entry xs (i * 7)) (entry xs (i * 7 + 1));
   v = point (entry xs (i * 7 + 2)) (entry xs (i * 7 + 3));
-  «hint_u» = entry xs (i * 7 + 4);
-  «hint_v» = entry xs (i * 7 + 5);
+  lu = entry xs (i * 7 + 4);
+  lv = entry xs (i * 7 + 5);
   asked = entry xs (i * 7 + 6);
 }
 
 unfoldable pub rowNumbers : Row → List Float
-rowNumbers r = r .u .x ∷ r .u .y ∷ r .v .x ∷ r .v .y ∷ r .«hint_u» ∷ r .«hint_v» ∷ r .asked ∷ []
+rowNumbers r = r .u .x ∷ r .u .y ∷ r .v .x ∷ r .v .y ∷ r .lu ∷ r .lv ∷ r .asked ∷ []
 
 unfoldable pub putRow : List Float → ℕ → Row → List Float
 putRow xs i r = sets xs (i * 7) (rowNumbers r)
@@ -58,13 +59,15 @@ unfoldable pub askedOf : Corner → Float → Float
 askedOf c radius = cond (c .found) (setback c (max radius 0f)) 0f
 
 unfoldable pub rowOf : Corner → Float → Row
-rowOf c radius = record { u = c .u; v = c .v; «hint_u» = c .lu; «hint_v» = c .lv; asked = askedOf c radius }
+rowOf c radius = record { u = c .u; v = c .v; lu = c .lu; lv = c .lv; asked = askedOf c radius }
 
--- a row of the corner at index i, if there is one; of its hints it is said only that the first tells whether there is
+-- a row of the corner at index i before its curved sides are measured
 pub record RowHeld (v : View) (i : ℕ) (r : Row) : Type 0 where
-  pub found : lt CEPS (r .«hint_u») ≡ cornerAt v i .found
+  pub found : lt CEPS (r .lu) ≡ cornerAt v i .found
   pub along-u : r .u ≡ cornerAt v i .u
   pub along-v : r .v ≡ cornerAt v i .v
+  pub line-u : OnLine (v .chords) (cornerAt v i .«side_u») (r .lu)
+  pub line-v : OnLine (v .chords) (cornerAt v i .«side_v») (r .lv)
   pub asked : r .asked ≡ askedAt v i
 
 unfoldable pub fittedOf : Corner → Float → Float → Float → Float

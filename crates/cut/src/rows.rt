@@ -6,13 +6,13 @@ ghost use Rattle.cut.specs.Rows.{rowAt, putRow, cutRowAt, putCutRow};
 use corner::Cut;
 use geom::P;
 
-// Of a corner: the unit directions of its sides, hints at their lengths, the first above 1e-9, and how far along them the cut that is
-// asked for would reach. All zero where there is no corner.
+// Of a corner whose curved sides are not yet measured: the unit directions of its sides, their lengths or what stands for them, and how
+// far along them the cut that is asked for would reach. All zero where there is no corner.
 pub struct Row {
     pub u: P,
     pub v: P,
-    pub hint_u: f64,
-    pub hint_v: f64,
+    pub lu: f64,
+    pub lv: f64,
     pub asked: f64,
 }
 
@@ -30,8 +30,8 @@ pub fn row_at(rows: &[f64], i: usize) -> Row
             x: rows[b + 2],
             y: rows[b + 3],
         },
-        hint_u: rows[b + 4],
-        hint_v: rows[b + 5],
+        lu: rows[b + 4],
+        lv: rows[b + 5],
         asked: rows[b + 6],
     }
 }
@@ -45,8 +45,8 @@ pub fn put_row(rows: &mut [f64], i: usize, r: Row)
     rows[b + 1] = r.u.y;
     rows[b + 2] = r.v.x;
     rows[b + 3] = r.v.y;
-    rows[b + 4] = r.hint_u;
-    rows[b + 5] = r.hint_v;
+    rows[b + 4] = r.lu;
+    rows[b + 5] = r.lv;
     rows[b + 6] = r.asked;
 }
 

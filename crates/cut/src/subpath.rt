@@ -3,11 +3,10 @@ ghost use mathlib.Core.Path.{_≡_};
 ghost use mathlib.Core.Bool.{_||_};
 ghost use lib.Dec.{ltb};
 ghost use Prim.Native.Nat.{ℕ, _+_, _≤_, _<_, _-_};
-ghost use lib.Ieee.{Float, lt};
+ghost use lib.Ieee.{Float};
 ghost use lib.ListN.{length};
 ghost use Rattle.path.specs.Flat.{anchorAt};
-ghost use Rattle.cubic.specs.Cubic.{CEPS};
-ghost use Rattle.corner.specs.Corner.{withLengths};
+ghost use Rattle.corner.specs.Corner.{Unmeasured};
 ghost use Rattle.corner.specs.declared.cut.CornerKind.{CornerKind};
 ghost use Rattle.cut.specs.Subpath.{Fits, viewOf};
 ghost use Rattle.cut.specs.Near.{gap, near, around, spanOf};
@@ -105,11 +104,10 @@ pub fn leaves(sub: Sub, i: usize) -> bool
     sub.closed || i + 1 < sub.n
 }
 
-// The corner at index i, if there is one, not yet measured: an open subpath's ends are none.
+// The corner at index i, if there is one, its curved sides not yet measured: an open subpath's ends are none.
 pub fn corner_at(anchors: &[f64], sub: Sub, i: usize) -> Corner
     requires { ⌜ Fits sub (length (now anchors)) × (i < sub .n) ⌝ }
-    ensures corner { λ r. ⌜ ((radius : ℕ → Float) (kind : ℕ → CornerKind) → withLengths 128 r ≡ cornerAt (viewOf (anchorAt (now (anchors .entry))) radius kind 128 sub) i) ⌝ }
-    ensures found { λ r. ⌜ lt CEPS (r .lu) ≡ r .found ⌝ }
+    ensures { λ r. ⌜ ((radius : ℕ → Float) (kind : ℕ → CornerKind) → Unmeasured 128 r (cornerAt (viewOf (anchorAt (now (anchors .entry))) radius kind 128 sub) i)) ⌝ }
 {
     if !arrives(sub, i) {
         return Corner::none();

@@ -1,15 +1,14 @@
 -- Corners by their rows: a row tells whether there is one, and in which directions its sides leave, and what it leaves out the anchors give. Assumes nothing.
-use mathlib.Core.Path.{_≡_, refl, ap, sym, _∙_}
+use mathlib.Core.Path.{_≡_, refl, ap, sym, subst, _∙_}
 use mathlib.Core.Logic.{_⊎_, inl, inr, ⊎-elim}
 use mathlib.Core.Bool.{Bool, true, false, _&&_, cond}
 use mathlib.Core.List.{List}
 use Prim.Native.Nat.{ℕ, suc, _+_, _≤_, _<_}
 use native.Mathlib.Omega.{arith}
-use lib.Ieee.{Float, lt}
+use lib.Ieee.{Float}
 use Rattle.real.specs.Operators.{0f}
 use Rattle.real.specs.StandIns.{max, min}
 use Rattle.geom.specs.declared.point.P.{P}
-use Rattle.cubic.specs.Cubic.{CEPS}
 use Rattle.path.specs.declared.anchor.Anchor.{Anchor}
 use Rattle.path.specs.Anchor.{isSmooth}
 use Rattle.path.specs.Shape.{prev, next}
@@ -17,8 +16,9 @@ use Rattle.side.specs.declared.side.Side.{Side}
 use Rattle.side.specs.declared.side.Direction.{Direction}
 use Rattle.side.specs.declared.side.Direction.the-variants.{Along, Nowhere}
 use Rattle.corner.specs.declared.corner.Corner.{Corner}
-use Rattle.side.specs.Side.{direction, lengthOf}
-use Rattle.corner.specs.Corner.{noCorner, sideU, sideV, cos, sin, withLengths, sharp, meet, between, cornerOf, setback, maxRadiusBeside}
+use Rattle.side.specs.Side.{direction, lengthOf, OnLine}
+use Rattle.corner.specs.Corner.{noCorner, sideU, sideV, cos, sin, withLengths, Unmeasured, sharp, meet, between, cornerOf, setback, maxRadiusBeside}
+use Rattle.corner.proofs.Measures.{none-measured}
 use Rattle.cut.specs.View.{View, arrives, leaves}
 use Rattle.cut.specs.Near.{near}
 use Rattle.cut.specs.Places.{cornerAt, ownAt, askedAt, fittedAt}
@@ -92,15 +92,30 @@ module _ (v : View) (i : ℕ) where
       } ≡ cornerAt v i
   corner-of e = ⊎-elim (λ h. absurd (not-both (cornerAt v i .found) (sym (ap (λ (c : Corner). c .found) h)) e)) (λ h. h .1) judged
 
-  -- what is known of a corner before its sides are measured makes its row
-  pub row-held : (c : Corner) → withLengths (v .chords) c ≡ cornerAt v i → lt CEPS (c .lu) ≡ c .found → RowHeld v i (rowOf c (v .radius i))
+  -- the same, from parts that are equal to these
+  pub corner-made : cornerAt v i .found ≡ true → (at du dv : P) (lu lv : Float) (su sv : Side) → at ≡ v .anchor i .p → du ≡ cornerAt v i .u → dv ≡ cornerAt v i .v
+      → su ≡ sideU (v .anchor i) (v .anchor (prev (v .n) i)) → sv ≡ sideV (v .anchor i) (v .anchor (next (v .n) i)) → lu ≡ lengthOf (v .chords) su → lv ≡ lengthOf (v .chords) sv
+      → record { found = true; at = at; u = du; v = dv; lu = lu; lv = lv; «side_u» = su; «side_v» = sv } ≡ cornerAt v i
+  corner-made e at du dv lu lv su sv p q r s t x y = rw (x, y, p, q, r, s, t) (corner-of e)
+
+  -- the corner is measured
+  pub measured : withLengths (v .chords) (cornerAt v i) ≡ cornerAt v i
+  unfolding withLengths
+  measured = ⊎-elim (λ h. ap (withLengths (v .chords)) (sym h) ∙ none-measured (v .chords) ∙ h) (λ h. ap (withLengths (v .chords)) (sym (h .1)) ∙ h .1) judged
+
+  -- what is known of it before makes its row
+  pub row-held : (c : Corner) → Unmeasured (v .chords) c (cornerAt v i) → RowHeld v i (rowOf c (v .radius i))
   unfolding withLengths rowOf askedOf askedAt ownAt setback cos sin
-  row-held c e f = record {
-    found = f ∙ ap (λ (k : Corner). k .found) e;
-    along-u = ap (λ (k : Corner). k .u) e;
-    along-v = ap (λ (k : Corner). k .v) e;
-    asked = ap (λ (k : Corner). askedOf k (v .radius i)) e;
-  }
+  row-held c m =
+      let e = m .is in
+      record {
+        found = m .found ∙ ap (λ (k : Corner). k .found) e;
+        along-u = ap (λ (k : Corner). k .u) e;
+        along-v = ap (λ (k : Corner). k .v) e;
+        line-u = subst (λ (k : Corner). OnLine (v .chords) (k .«side_u») (c .lu)) e (m .line-u);
+        line-v = subst (λ (k : Corner). OnLine (v .chords) (k .«side_v») (c .lv)) e (m .line-v);
+        asked = ap (λ (k : Corner). askedOf k (v .radius i)) e;
+      }
 
   -- the neighbours are asked only where there is a corner, and then both are
   fitted-of : (x y : Float) → (cornerAt v i .found ≡ true → (x ≡ askedAt v (prev (v .n) i)) × (y ≡ askedAt v (next (v .n) i)))

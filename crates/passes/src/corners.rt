@@ -40,8 +40,8 @@ fn row_of(c: Corner, radius: f64) -> Row
     Row {
         u: u,
         v: v,
-        hint_u: c.lu,
-        hint_v: c.lv,
+        lu: c.lu,
+        lv: c.lv,
         asked: asked(c, radius),
     }
 }
@@ -77,7 +77,7 @@ pub fn corner_of_row(
     ensures table_u { λ c. ⌜ Serves 128 (now («table_u» .exit)) (c .«side_u») ⌝ }
     ensures table_v { λ c. ⌜ Serves 128 (now («table_v» .exit)) (c .«side_v») ⌝ }
 {
-    if !(1e-9 < r.hint_u) {
+    if !(1e-9 < r.lu) {
         return Corner::none();
     }
     let a = path::anchor_at(anchors, sub.first + i);
@@ -93,8 +93,8 @@ pub fn corner_of_row(
         at: at,
         u: u,
         v: v,
-        lu: side_u.measure(r.hint_u, table_u),
-        lv: side_v.measure(r.hint_v, table_v),
+        lu: side_u.measure(r.lu, table_u),
+        lv: side_v.measure(r.lv, table_v),
         side_u: side_u,
         side_v: side_v,
     }

@@ -1,7 +1,7 @@
 -- Sides of a corner, after 000's `Side`. 000's 128 chords are a parameter, `chords`. Assumes nothing.
 use Prim.Native.Nat.{ℕ, _+_, _-_}
 use mathlib.Core.Path.{_≡_}
-use mathlib.Core.Bool.{Bool, false, _&&_, cond}
+use mathlib.Core.Bool.{Bool, true, false, _&&_, cond}
 use mathlib.Core.List.{List}
 use lib.Dec.{ltb}
 use lib.Ieee.{Float, lt, le}
@@ -56,8 +56,9 @@ lengthOf chords o = cond (isStraightSide (o .c)) (dist (pt (o .c) 0) (pt (o .c) 
 unfoldable pub longEnough : Float → Bool
 longEnough l = lt CEPS l && isFinite l
 
-unfoldable pub isLong : ℕ → Side → Bool
-isLong chords o = longEnough (lengthOf chords o)
+-- a number that is a side's length where the side is straight
+unfoldable pub OnLine : ℕ → Side → Float → Type 0
+OnLine chords o l = isStraightSide (o .c) ≡ true → l ≡ lengthOf chords o
 
 -- a table that serves a side: on a curve, that of its sums
 unfoldable pub Serves : ℕ → List Float → Side → Type 0

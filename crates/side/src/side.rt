@@ -1,16 +1,13 @@
 // `Side`: a side of a corner, the segment from the corner to its neighbour, as a cubic leaving the corner.
 ghost use mathlib.Core.Path.{_≡_};
-ghost use mathlib.Core.Bool.{true};
 ghost use lib.ListN.{length};
-ghost use lib.Ieee.{lt};
-ghost use Rattle.geom.specs.declared.point.P.{P};
-ghost use Rattle.cubic.specs.Cubic.{CEPS};
-ghost use Rattle.side.specs.declared.side.Direction.the-variants.{Along};
-ghost use Rattle.side.specs.Side.{isStraightSide, unit, sideOf, direction, lengthOf, longEnough, isLong, Serves, atLine, atLength};
+ghost use Rattle.geom.specs.Point.{dist};
+ghost use Rattle.geom.specs.Flat.{pt};
+ghost use Rattle.side.specs.Side.{isStraightSide, unit, sideOf, direction, lengthOf, longEnough, OnLine, Serves, atLine, atLength};
 use crate::table::arclen_table;
 use crate::table::at_curve;
 use crate::table::curve_length;
-use crate::table::is_long_curve;
+use crate::table::first_chords;
 use geom::P;
 
 pub struct Side {
@@ -60,8 +57,7 @@ impl Side {
 
     // Towards the first of c1, c2, c3 that is farther than 1e-9 from c0.
     pub fn direction(self) -> Heading
-        ensures along { λ r. ⌜ r .along ≡ direction self ⌝ }
-        ensures far { λ r. ⌜ ((u : P) → r .along ≡ Along u → lt CEPS (r .far) ≡ true) ⌝ }
+        ensures { λ r. ⌜ r .along ≡ direction self ⌝ }
     {
         let c = self.c;
         for k in 1..4 {
@@ -91,59 +87,54 @@ impl Side {
         curve_length(c)
     }
 
-    // Whether the side is longer than 1e-9, and finite. On a curve in limit the first chords tell that.
-    pub fn is_long(self, hint: f64) -> bool
-        ensures { λ r. ⌜ r ≡ isLong 128 self ⌝ }
-    {
-        let c = self.c;
-        if is_straight_side(c) {
-            return long_enough(c[0].dist_near(c[3], hint));
-        }
-        if cubic::curve_in_limit(c) {
-            return is_long_curve(c);
-        }
-        long_enough(curve_length(c))
-    }
-
-    // The length; on a curve, from the table of its sums, which is left for `at_length`.
-    pub fn measure(self, hint: f64, table: &mut [f64]) -> f64
-        requires { ⌜ length (now table) ≡ 129 ⌝ }
-        ensures length { λ r. ⌜ r ≡ lengthOf 128 self ⌝ }
-        ensures table { λ _. ⌜ Serves 128 (now (table .exit)) self ⌝ }
+    // A number that is above 1e-9 and finite where the side's length is: on a straight side the length, which `hint` may be, on a curve
+    // in limit what its first chords add up to.
+    pub fn reach(self, hint: f64) -> f64
+        ensures long { λ r. ⌜ longEnough r ≡ longEnough (lengthOf 128 self) ⌝ }
+        ensures line { λ r. ⌜ OnLine 128 self r ⌝ }
     {
         let c = self.c;
         if is_straight_side(c) {
             return c[0].dist_near(c[3], hint);
         }
+        if cubic::curve_in_limit(c) {
+            return first_chords(c);
+        }
+        curve_length(c)
+    }
+
+    // The length, which `reach` has on a straight side; on a curve, from the table of its sums, which is left for `at_length`.
+    pub fn measure(self, reach: f64, table: &mut [f64]) -> f64
+        requires { ⌜ length (now table) ≡ 129 ⌝ }
+        ensures length { λ r. ⌜ (OnLine 128 self reach → r ≡ lengthOf 128 self) ⌝ }
+        ensures table { λ _. ⌜ Serves 128 (now (table .exit)) self ⌝ }
+    {
+        let c = self.c;
+        if is_straight_side(c) {
+            return reach;
+        }
         arclen_table(c, table);
         table[128]
     }
 
-    // The place s along the side from the corner; u is the direction in which the side leaves, and `hint` may be its length.
-    pub fn at_length(self, s: f64, u: P, hint: f64, table: &[f64; 129]) -> At
-        requires { ⌜ Serves 128 (now table) self ⌝ }
+    // The place s along the side from the corner; u is the direction in which the side leaves, and len its length.
+    pub fn at_length(self, s: f64, u: P, len: f64, table: &[f64; 129]) -> At
+        requires { ⌜ OnLine 128 self len × Serves 128 (now table) self ⌝ }
         ensures { λ r. ⌜ r ≡ atLength 128 self s u ⌝ }
     {
         let c = self.c;
         if is_straight_side(c) {
-            return at_line(c, s, u, hint);
+            return at_line(c, s, u, len);
         }
         at_curve(c, s, u, table)
     }
 }
 
-// Whether a length is more than 1e-9, and finite.
-fn long_enough(len: f64) -> bool
-    ensures { λ r. ⌜ r ≡ longEnough len ⌝ }
-{
-    1e-9 < len && real::is_finite(len)
-}
-
 // The same on a straight side.
-fn at_line(c: [P; 4], s: f64, u: P, hint: f64) -> At
+fn at_line(c: [P; 4], s: f64, u: P, len: f64) -> At
+    requires { ⌜ len ≡ dist (pt c 0) (pt c 3) ⌝ }
     ensures { λ r. ⌜ r ≡ atLine c s u ⌝ }
 {
-    let len = c[0].dist_near(c[3], hint);
     let p = c[0].add(u.mul(s));
     if 1e-9 < len {
         return At {

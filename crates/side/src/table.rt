@@ -31,10 +31,11 @@ pub fn curve_length(c: [P; 4]) -> f64
     len
 }
 
-// Whether the chords of a curve in limit add up to more than 1e-9: no sum is below the one before it, so the first above 1e-9 tells.
-pub fn is_long_curve(c: [P; 4]) -> bool
+// What the first chords of a curve in limit add up to, as far as the first sum above 1e-9: no sum is below the one before it, so that
+// one tells whether the length is above 1e-9.
+pub fn first_chords(c: [P; 4]) -> f64
     requires { ⌜ curveIn c ≡ true ⌝ }
-    ensures { λ r. ⌜ r ≡ longEnough (running (chord c 128) 128) ⌝ }
+    ensures { λ r. ⌜ longEnough r ≡ longEnough (running (chord c 128) 128) ⌝ }
 {
     let mut so_far = 0.0;
     let mut p = cubic::step_at(c, CHORDS, 0);
@@ -42,11 +43,11 @@ pub fn is_long_curve(c: [P; 4]) -> bool
         let q = cubic::step_at(c, CHORDS, k + 1);
         so_far = so_far + p.dist(q);
         if 1e-9 < so_far {
-            return true;
+            return so_far;
         }
         p = q;
     }
-    false
+    so_far
 }
 
 // The sums of the first 0, 1, .. 128 chords, the last of which is the curve's length.

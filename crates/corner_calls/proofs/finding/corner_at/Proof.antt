@@ -7,7 +7,7 @@ use Rattle.corner_calls.proofs.finding.corner_at.Tie as tie
 
 returns : tie.Need-returns
 unfolding plainView
-returns c = c .measured .ensures ∙ c .before .corner-at .ensures .0 _ _
+returns c = c .measured .ensures ∙ c .before .corner-at .ensures _ _ .is
 
 pub corner-at-spec : {M : Type 1} → statement M
 corner-at-spec = tie.close (tie.spec (λ c κs. search needs) (λ c κs. tt) returns)

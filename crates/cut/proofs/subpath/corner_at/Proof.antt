@@ -3,7 +3,7 @@ use Prim.Native.Nat.{_<_}
 use native.Mathlib.Omega.{arith}
 use borrow.Author.Needs.{needs}
 use borrow.Author.Tests.{not-true, not-false}
-use Rattle.corner.proofs.Measures.{none-is, none-found}
+use Rattle.corner.proofs.Measures.{nothing}
 use Rattle.cut.specs.View.{arrives, leaves}
 use Rattle.cut.specs.Places.{cornerAt}
 use Rattle.cut.specs.Subpath.{viewOf}
@@ -20,43 +20,37 @@ after-in c = let s = c .before .before .before .before .before .before .before .
 
 returns : tie.Need-returns
 unfolding cornerAt arrives leaves viewOf
-returns c =
-    let t = c .before in (
-      λ radius kind. none-is _ _ (c .none .ensures) (rw (← t .before .arrives .ensures, not-true (t .before .arrives .result) (t .if1 .taken))),
-      none-found _ (c .none .ensures),
-    )
+returns c radius kind =
+    let t = c .before in
+    nothing 128 _ _ (c .none .ensures) (rw (← t .before .arrives .ensures, not-true (t .before .arrives .result) (t .if1 .taken)))
 
 returns-2 : tie.Need-returns-2
 unfolding cornerAt arrives leaves viewOf
-returns-2 c =
+returns-2 c radius kind =
     let t = c .before in
-    let f = t .before .before in (
-      λ radius kind. none-is _ _ (c .none2 .ensures)
-          (rw (← f .before .arrives .ensures, not-false (f .before .arrives .result) (f .if1 .left), ← t .before .leaves .ensures, not-true (t .before .leaves .result) (t .if2 .taken))),
-      none-found _ (c .none2 .ensures),
-    )
+    let f = t .before .before in
+    nothing 128 _ _ (c .none2 .ensures)
+    (rw (← f .before .arrives .ensures, not-false (f .before .arrives .result) (f .if1 .left), ← t .before .leaves .ensures, not-true (t .before .leaves .result) (t .if2 .taken)))
 
 returns-3 : tie.Need-returns-3
 unfolding cornerAt arrives leaves viewOf
-returns-3 c =
+returns-3 c radius kind =
     let n = c .before .before .before in
     let p = n .before .before .before in
     let g = p .before .before .before in
-    let f = g .before .before in (
-      λ radius kind. rw (
-        ← f .before .arrives .ensures,
-        not-false (f .before .arrives .result) (f .if1 .left),
-        ← g .before .leaves .ensures,
-        not-false (g .before .leaves .result) (g .if2 .left),
-        c .of .ensures .0,
-        c .before .anchor-at3 .ensures,
-        n .next .ensures,
-        n .before .anchor-at2 .ensures,
-        p .prev .ensures,
-        p .before .anchor-at .ensures,
-      ),
-      c .of .ensures .1,
+    let f = g .before .before in
+    rw (
+      ← f .before .arrives .ensures,
+      not-false (f .before .arrives .result) (f .if1 .left),
+      ← g .before .leaves .ensures,
+      not-false (g .before .leaves .result) (g .if2 .left),
+      ← n .next .ensures,
+      ← c .before .anchor-at3 .ensures,
+      ← p .prev .ensures,
+      ← n .before .anchor-at2 .ensures,
+      ← p .before .anchor-at .ensures,
     )
+    (c .of .ensures)
 
 pub corner-at-spec : {M : Type 1} → statement M
 corner-at-spec =

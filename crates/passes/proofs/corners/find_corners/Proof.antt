@@ -77,7 +77,7 @@ loop-again-2 c =
           (λ j h f. subst (RowHeld _ j) (sym (ap (λ z. rowAt z j) (g .put-row .ensures) ∙ at-put-row-other (l .rows) (l .i) x j (λ s. omega arith))) (i .5 kind j h f))
           (λ f.
           subst (RowHeld _ (l .i)) (sym (ap (λ z. rowAt z (l .i)) (g .put-row .ensures) ∙ at-put-row (l .rows) (l .i) x (omega arith) ∙ r .row-of .ensures))
-          (row-held _ (l .i) (q .corner-at .result) (q .corner-at .ensures .0 (entry (a .radii .now)) kind) (q .corner-at .ensures .1))),
+          (row-held _ (l .i) (q .corner-at .result) (q .corner-at .ensures (entry (a .radii .now)) kind))),
       i .6,
     )
 

@@ -13,6 +13,7 @@ use Rattle.views.specs.View.{entry}
 use Rattle.cubic.specs.Cubic.{CEPS}
 use Rattle.path.specs.Flat.{anchorAt}
 use Rattle.corner.specs.declared.corner.Corner.{Corner}
+use Rattle.corner.specs.Corner.{withLengths}
 use Rattle.corner.specs.Cut.{cut}
 use Rattle.cut.specs.View.{View}
 use Rattle.cut.specs.Subpath.{viewOf}
@@ -21,7 +22,7 @@ use Rattle.cut.specs.Places.{cornerAt, fittedAt, isCut, cutAt}
 use Rattle.cut.specs.Rows.{RowHeld, cutRowAt, flagOf}
 use Rattle.cut.proofs.Steps.{not-both, near-span, before-span, span-in}
 use Rattle.cut.proofs.HeldRows.{at-put-cut, at-put-cut-other}
-use Rattle.passes.proofs.FoundCorners.{row-here, fitted-held}
+use Rattle.passes.proofs.FoundCorners.{measured, row-here, fitted-held}
 use Rattle.passes.proofs.SmallRadii.{small-uncut}
 use Rattle.passes.proofs.cuts.make_cuts.Statement.{statement}
 use Rattle.passes.proofs.cuts.make_cuts.Tie as tie
@@ -130,6 +131,15 @@ tables c =
     let q = c .before .before .before in
     let i = q .before .before .before .before .before .before .before .before .before .before .loop .inv in
     (q .corner-of-row .kept .1 .1 .1 .1 .0 ∙ i .11, q .corner-of-row .kept .1 .1 .1 .1 .1 .0 ∙ i .12)
+
+-- the corner is measured, and has its tables
+served : tie.Need-cut-requires Inv-loop μ-loop
+unfolding viewOf
+served c κs =
+    let q = c .before .before .before .before .before .before .before in
+    let l = q .before .before .before .before .before .before .before .before .before in
+    let e = corner-is q in
+    (ap (withLengths 128) e ∙ measured (view l) (l .before .loop .i) ∙ sym e, q .corner-of-row .ensures .1 .0, q .corner-of-row .ensures .1 .1)
 
 -- ---- an index that is not cut
 loop-again-2 : tie.Need-loop-again-2 Inv-loop μ-loop
@@ -254,7 +264,7 @@ make-cuts-spec =
     (λ c. let l = c .before .before .before .before .before .before .before .before .before .before .before .before .before in let b = within l in let i = l .before .loop .inv in omega arith)
     (λ c. let l = c .before .before .before .before .before .before .before .before .before .before .before .before .before in let b = within l in let i = l .before .loop .inv in omega arith)
     loop-again-3
-    (λ c κs. let q = c .before .before .before .before .before .before .before in (q .corner-of-row .ensures .1 .0, q .corner-of-row .ensures .1 .1))
+    served
     (λ c κs. let l = c .before .before .before .before .before .before .before .before .before .before .before .before .before .before .before .before .before in let b = within l in let i = l .before .loop .inv in omega arith)
     (λ c. let l = c .before .before .before .before .before .before .before .before .before .before .before .before .before .before .before .before .before .before .before .before in let b = within l in let i = l .before .loop .inv in omega arith)
     (λ c. let l = c .before .before .before .before .before .before .before .before .before .before .before .before .before .before .before .before .before .before .before .before in let b = within l in let i = l .before .loop .inv in omega arith)

@@ -9,22 +9,19 @@ unfolding atLine
 returns c =
     let p = c .before .before in
     let l = p .before .before .before in
-    rw (c .clamp .ensures, p .add .ensures, p .before .mul .ensures, ← l .dist-near .ensures, c .before .if1 .taken)
+    rw (c .clamp .ensures, p .add .ensures, p .before .mul .ensures, ← l .pre, c .before .if1 .taken)
 
 returns-2 : tie.Need-returns-2
 unfolding atLine
 returns-2 c =
     let p = c .before in
     let l = p .before .before .before in
-    rw (p .add .ensures, p .before .mul .ensures, ← l .dist-near .ensures, c .if1 .left)
+    rw (p .add .ensures, p .before .mul .ensures, ← l .pre, c .if1 .left)
 
 pub at-line-spec : {M : Type 1} → statement M
 at-line-spec =
     tie.close
     (tie.spec
-    (λ c. search needs)
-    (λ c. search needs)
-    (λ c κs. tt)
     (λ c. search needs)
     (λ c κs. tt)
     (λ c κs. tt)

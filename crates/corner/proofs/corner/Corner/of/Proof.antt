@@ -7,7 +7,7 @@ use Rattle.corner.proofs.corner.Corner.of.Tie as tie
 
 returns : tie.Need-returns
 unfolding cornerOf
-returns c = nothing _ _ (c .none .ensures) (rw (← c .before .before .is-smooth .ensures, c .before .if1 .taken))
+returns c = nothing 128 _ _ (c .none .ensures) (rw (← c .before .before .is-smooth .ensures, c .before .if1 .taken))
 
 returns-2 : tie.Need-returns-2
 unfolding cornerOf between
@@ -15,8 +15,8 @@ returns-2 c =
     let d = c .before .before .before in
     let o = d .before .before in
     let e = o .before .before in
-    nothing _ _ (c .none2 .ensures)
-    (rw (← e .before .is-smooth .ensures, e .if1 .left, ← o .of .ensures, ← d .direction .ensures .0, c .before .enum-told .given .1))
+    nothing 128 _ _ (c .none2 .ensures)
+    (rw (← e .before .is-smooth .ensures, e .if1 .left, ← o .of .ensures, ← d .direction .ensures, c .before .enum-told .given .1))
 
 returns-3 : tie.Need-returns-3
 unfolding cornerOf between
@@ -26,15 +26,15 @@ returns-3 c =
     let du = u .before .before in
     let o = du .before .before in
     let e = o .before .before in
-    nothing _ _ (c .none3 .ensures)
+    nothing 128 _ _ (c .none3 .ensures)
     (rw (
       ← e .before .is-smooth .ensures,
       e .if1 .left,
       ← o .of .ensures,
       ← du .before .of2 .ensures,
-      ← du .direction .ensures .0,
+      ← du .direction .ensures,
       u .du .given .1,
-      ← dv .direction2 .ensures .0,
+      ← dv .direction2 .ensures,
       c .before .enum-told2 .given .1,
     ))
 
@@ -46,24 +46,18 @@ returns-4 c =
     let u = dv .before .before in
     let du = u .before .before in
     let o = du .before .before in
-    let e = o .before .before in (
-      rw (
-        ← e .before .is-smooth .ensures,
-        e .if1 .left,
-        ← o .of .ensures,
-        ← du .before .of2 .ensures,
-        ← du .direction .ensures .0,
-        u .du .given .1,
-        ← dv .direction2 .ensures .0,
-        v .dv .given .1,
-      )
-          (c .meet .ensures .0),
-      c .meet .ensures .1,
+    let e = o .before .before in
+    rw (
+      ← e .before .is-smooth .ensures,
+      e .if1 .left,
+      ← o .of .ensures,
+      ← du .before .of2 .ensures,
+      ← du .direction .ensures,
+      u .du .given .1,
+      ← dv .direction2 .ensures,
+      v .dv .given .1,
     )
-
--- the hint at the first side's length is how far off the point is that gives its direction
-far : tie.Need-meet-requires
-far c κs = let u = c .before .before .before .before .before in u .before .before .direction .ensures .1 _ (u .du .given .1)
+    (c .meet .ensures)
 
 pub of-spec : {M : Type 1} → statement M
 of-spec =
@@ -84,5 +78,5 @@ of-spec =
     (λ c. search needs)
     (λ c κs. tt)
     returns-3
-    far
+    (λ c κs. tt)
     returns-4)

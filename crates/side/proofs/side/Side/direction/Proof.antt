@@ -32,10 +32,6 @@ none : (o : Side) → Near (o .c) 4 → Nowhere ≡ direction o
 unfolding direction towards
 none o n = rw (n 1 (omega arith) (omega arith), n 2 (omega arith) (omega arith), n 3 (omega arith) (omega arith))
 
--- nowhere is not along anything
-elsewhere : (u : P) → Nowhere ≡ Along u → ⊥
-elsewhere u e = let z : _≡_ {A = ℕ} 0 1 = cc in omega arith
-
 abbrev Inv-loop : tie.InvT-loop
 Inv-loop c k₀ k = (1 ≤ k) × (k ≤ 4) × Near c k
 
@@ -54,10 +50,8 @@ returns : tie.Need-returns Inv-loop μ-loop
 returns c =
     let b = c .before .before .before in
     let d = b .before .sub .ensures in
-    let l = b .before .before .before .before .before .loop in (
-      ap Along (made c ∙ ap unit d) ∙ found _ (l .k) (l .inv .0) (omega arith) (l .inv .2) (rw (b .beyond .ensures, d) at (c .before .before .if1 .taken)),
-      λ u e. rw (c .before .len .ensures, ← b .beyond .ensures) (c .before .before .if1 .taken),
-    )
+    let l = b .before .before .before .before .before .loop in
+    ap Along (made c ∙ ap unit d) ∙ found _ (l .k) (l .inv .0) (omega arith) (l .inv .2) (rw (b .beyond .ensures, d) at (c .before .before .if1 .taken))
 
 loop-again : tie.Need-loop-again Inv-loop μ-loop
 loop-again c =
@@ -68,7 +62,7 @@ loop-again c =
 returns-2 : tie.Need-returns-2 Inv-loop μ-loop
 returns-2 c =
     let l = c .before .loop in
-    (none _ (λ j h. l .inv .2 j (omega arith)), λ u e. absurd (elsewhere u e))
+    none _ (λ j h. l .inv .2 j (omega arith))
 
 pub direction-spec : {M : Type 1} → statement M
 direction-spec =

@@ -1,4 +1,4 @@
--- `side::table::is_long_curve` meets its contract: after k chords the sum is theirs, and does not exceed 1e-9. Assumes nothing.
+-- `side::table::first_chords` meets its contract: after k chords the sum is theirs, and does not exceed 1e-9. Assumes nothing.
 use mathlib.Core.Path.{_≡_, refl, ap, sym, _∙_}
 use mathlib.Core.Bool.{false}
 use Prim.Native.Nat.{_+_, _-_, _≤_}
@@ -13,8 +13,8 @@ use Rattle.cubic.specs.Sample.{stepAt, chord}
 use Rattle.cubic.proofs.FiniteChords.{chords-is-finite, chords-above}
 use Rattle.side.specs.Side.{longEnough}
 use Rattle.side.proofs.Lengths.{length-next}
-use Rattle.side.proofs.table.is_long_curve.Statement.{statement}
-use Rattle.side.proofs.table.is_long_curve.Tie as tie
+use Rattle.side.proofs.table.first_chords.Statement.{statement}
+use Rattle.side.proofs.table.first_chords.Tie as tie
 
 abbrev Inv-loop : tie.InvT-loop
 Inv-loop c far₀ p₀ k₀ far p k = (k ≤ 128) × (p ≡ stepAt c 128 k) × (far ≡ running (chord c 128) k) × (lt CEPS far ≡ false)
@@ -40,8 +40,12 @@ returns c =
     let l = d .before .before .before .loop in
     let s = d .before .before .before .before .before in
     let curve = s .args .c in
+    let above = ap (lt CEPS) (sym (next d)) ∙ c .if1 .taken in
     rw (
-      chords-above curve 128 (s .pre) (lit< tt) (lit< tt) CEPS (l .k + 1) (omega arith) (ap (lt CEPS) (sym (next d)) ∙ c .if1 .taken),
+      next d,
+      above,
+      chords-above curve 128 (s .pre) (lit< tt) (lit< tt) CEPS (l .k + 1) (omega arith) above,
+      chords-is-finite curve 128 (s .pre) (lit< tt) (lit< tt) (l .k + 1) (omega arith),
       chords-is-finite curve 128 (s .pre) (lit< tt) (lit< tt) 128 (lit≤ tt),
     )
 
@@ -51,14 +55,13 @@ loop-again c =
     (omega arith, d .before .step-at2 .ensures, next d, c .if1 .left)
 
 returns-2 : tie.Need-returns-2 Inv-loop μ-loop
-unfolding longEnough
 returns-2 c =
     let l = c .before .loop in
     let end : l .k ≡ 128 = omega arith in
-    rw (sym (ap (lt CEPS) (l .inv .2 ∙ ap (running _) end)) ∙ l .inv .3)
+    ap longEnough (l .inv .2 ∙ ap (running _) end)
 
-pub is-long-curve-spec : {M : Type 1} → statement M
-is-long-curve-spec =
+pub first-chords-spec : {M : Type 1} → statement M
+first-chords-spec =
     tie.close
     (tie.spec
     Inv-loop
