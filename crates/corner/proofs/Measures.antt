@@ -23,16 +23,6 @@ point-length : (chords : ℕ) → lengthOf chords (noCorner .«side_u») ≡ 0f
 unfolding lengthOf dist len minus rootOf lt le sub add sum mul neg ofBits round
 point-length chords = rw point-straight
 
--- the tests of a corner, side by side
-regroup : (a b c d s : Bool) → (s && (a && c) && (b && d)) ≡ (a && b && c && d && s)
-regroup a b c d false = sym (and-false (a && b && c && d))
-regroup false b c d true = refl
-regroup true false false d true = refl
-regroup true false true d true = refl
-regroup true true false d true = refl
-regroup true true true false true = refl
-regroup true true true true true = refl
-
 -- so any table serves them
 pub none-served : (chords : ℕ) (table : List Float) (r : Corner) → r ≡ noCorner → Serves chords table (r .«side_u») × Serves chords table (r .«side_v»)
 unfolding Serves
@@ -54,6 +44,16 @@ nothing chords r k e f = record {
   line-u = λ line. rw e (sym (point-length chords));
   line-v = λ line. rw e (sym (point-length chords));
 }
+
+-- the tests of a corner, side by side
+regroup : (a b c d s : Bool) → (s && (a && c) && (b && d)) ≡ (a && b && c && d && s)
+regroup a b c d false = sym (and-false (a && b && c && d))
+regroup false b c d true = refl
+regroup true false false d true = refl
+regroup true false true d true = refl
+regroup true true false d true = refl
+regroup true true true false true = refl
+regroup true true true true true = refl
 
 sides : (s : Bool) (l m : Float) → (s && longEnough l && longEnough m) ≡ (lt CEPS l && lt CEPS m && isFinite l && isFinite m && s)
 unfolding longEnough

@@ -11,7 +11,8 @@ use Rattle.cut.specs.View.{View, arrives, leaves}
 use Rattle.path.specs.Shape.{prev, next}
 use Rattle.cut.specs.Places.{placeAt}
 use Rattle.cut.specs.Near.{gap, near, old}
-use Rattle.cut.proofs.Steps.{next-in, next-round, not-both, near-cases, near-in, near-round}
+use Rattle.views.proofs.Bools.{not-both}
+use Rattle.cut.proofs.Steps.{next-in, next-round, near-cases, near-in, near-round}
 use Rattle.cut.proofs.Follow.{In, follows}
 
 -- ---- two views of one shape that agree near i

@@ -3,7 +3,7 @@
 -- three: its segments are trimmed by the cuts beside it. Assumes nothing.
 use mathlib.Core.Path.{_≡_, refl, sym, ap, _∙_}
 use mathlib.Core.Logic.{⊎-elim}
-use mathlib.Core.Bool.{Bool, true, false, cond}
+use mathlib.Core.Bool.{Bool, true, false}
 use Prim.Native.Nat.{ℕ, zero, suc, _+_, _-_, _≤_, _<_}
 use native.Mathlib.Omega.{arith}
 use lib.Dec.{ltb}
@@ -12,7 +12,8 @@ use Rattle.path.specs.Shape.{prev, next}
 use Rattle.cut.specs.View.{View, arrives, leaves}
 use Rattle.cut.specs.Places.{isCut, cutAt, inAt, outAt, placeOf, placeAt}
 use Rattle.cut.specs.Near.{gap, near}
-use Rattle.cut.proofs.Steps.{next-in, or-right, not-both, near-cases}
+use Rattle.views.proofs.Bools.{or-right, not-both}
+use Rattle.cut.proofs.Steps.{next-in, near-cases}
 use Rattle.cut.proofs.Follow.{In, follows}
 
 -- r is the row of v's anchors from index lo, not round the end

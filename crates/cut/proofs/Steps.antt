@@ -5,9 +5,9 @@ use mathlib.Core.Bool.{Bool, true, false, _&&_, _||_, or-false, cond}
 use Prim.Native.Nat.{ℕ, zero, suc, _+_, _-_, _≤_, _<_}
 use native.Mathlib.Omega.{arith}
 use lib.Dec.{leb, ltb}
-use borrow.Author.Tests.{leb-true, le-leb, lt-leb, lt-ltb, le-ltb}
+use borrow.Author.Tests.{leb-true, le-leb, lt-ltb, le-ltb}
 use Rattle.views.proofs.Laws.{order}
-use Rattle.views.proofs.Bools.{both}
+use Rattle.views.proofs.Bools.{both, or-cases, or-left, or-right, not-both}
 use Rattle.path.specs.Shape.{prev, next}
 use Rattle.cut.specs.Near.{gap, near, around, spanOf}
 
@@ -35,20 +35,6 @@ next-prev n zero h = next-round n (n - 1) (omega arith)
 next-prev n (suc j) h = let l : j + 1 < n = omega arith in next-in n j l ∙ omega arith
 
 -- ---- near
-
-pub or-cases : (a b : Bool) → (a || b) ≡ true → (a ≡ true) ⊎ (b ≡ true)
-or-cases true b e = inl refl
-or-cases false b e = inr e
-
-pub or-left : (a b : Bool) → a ≡ true → (a || b) ≡ true
-or-left a b e = rw e
-
-pub or-right : (a b : Bool) → b ≡ true → (a || b) ≡ true
-or-right true b e = refl
-or-right false b e = e
-
-pub not-both : (b : Bool) → b ≡ false → b ≡ true → ⊥
-not-both b e h = let z : _≡_ {A = ℕ} 0 1 = cc (e, h) in omega arith
 
 pub near-cases : (k n : ℕ) (c : Bool) (i j : ℕ) → near k n c i j ≡ true → (gap i j ≤ k) ⊎ ((c ≡ true) × (n ≤ gap i j + k))
 unfolding near

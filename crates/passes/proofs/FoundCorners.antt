@@ -23,7 +23,8 @@ use Rattle.cut.specs.View.{View, arrives, leaves}
 use Rattle.cut.specs.Near.{near}
 use Rattle.cut.specs.Places.{cornerAt, ownAt, askedAt, fittedAt}
 use Rattle.cut.specs.Rows.{rowAt, askedOf, rowOf, RowHeld, fittedOf, HoldsRows}
-use Rattle.cut.proofs.Steps.{not-both, prev-lt, next-lt, near-more, near-prev, near-next}
+use Rattle.views.proofs.Bools.{not-both}
+use Rattle.cut.proofs.Steps.{prev-lt, next-lt, near-more, near-prev, near-next}
 use Rattle.cut.proofs.Follow.{cond-same, inner}
 
 -- ---- no corner, or one with these fields and these sides, measured

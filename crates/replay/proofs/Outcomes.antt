@@ -1,6 +1,6 @@
 -- One law for each way in which `replay` ends, with its answer, the lists at exit and the claim. Assumes nothing.
 use mathlib.Core.Path.{_≡_, refl, sym, ap, _∙_}
-use mathlib.Core.Bool.{true, false, _&&_}
+use mathlib.Core.Bool.{true, false, _&&_, true≢false}
 use mathlib.Core.List.{List, map}
 use Prim.Native.Nat.{ℕ, _*_, _%_, _≤_}
 use native.Mathlib.Omega.{arith}
@@ -24,7 +24,7 @@ use Rattle.cache.specs.Calls.{buildVerdict, buildAnswer, buildNumbers, buildFla
 use Rattle.session.specs.Drawing.{Lent, drawn}
 use Rattle.session.specs.Calls.{listsFit, listsAfter, builtVerdict, builtLists}
 use Rattle.session.specs.Session.{answers, afterAll, played}
-use Rattle.session.proofs.Judging.{true-false, places-then}
+use Rattle.session.proofs.Judging.{places-then}
 use Rattle.session.proofs.Plays.{after-played, demand3-played}
 use Rattle.cached.specs.Opening.{lent, openedCached}
 use Rattle.replay.specs.declared.calls.Replayed.{Replayed}
@@ -52,7 +52,7 @@ module _ (l : Lent) where
   -- its test never passes
   limit-fails : drawingLimit (l .shapes) (l .anchors) (l .radii) false ≡ passes → ⊥
   unfolding drawingLimit
-  limit-fails e = true-false false (holds-says false n (places-then (placeIn (l .anchors) (l .radii)) n (holds false n) e)) refl
+  limit-fails e = true≢false (sym (holds-says false n (places-then (placeIn (l .anchors) (l .radii)) n (holds false n) e)))
 
 -- what comes after a test that fails
 judge-fails : (t : Test) → (t ≡ passes → ⊥) → (c : ℕ) (v w : Verdict) → judge t c v ≡ judge t c w

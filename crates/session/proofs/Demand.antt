@@ -1,6 +1,6 @@
 -- DEMAND 3, by one induction over the list of calls, for every accepted drawing and every list. Assumes nothing.
 use mathlib.Core.Path.{_≡_, refl, sym, ap, ap₂, _∙_}
-use mathlib.Core.Bool.{true, false, _&&_}
+use mathlib.Core.Bool.{true, _&&_, true≢false}
 use mathlib.Core.List.{List, [], _∷_}
 use Prim.Native.Nat.{ℕ, _+_, _*_}
 use native.Mathlib.Omega.{arith}
@@ -31,7 +31,7 @@ use Rattle.session.specs.Calls.{listsFit, builtVerdict, builtLists}
 use Rattle.session.specs.Model.{lengthsOf, longFor, smallPath, modelNext, modelAnswers, modelAfter}
 use Rattle.session.specs.Session.{Turn, after, Linked, answers, afterAll, fed}
 use Rattle.session.specs.Demand.{Holds, Agrees, Demand3}
-use Rattle.session.proofs.Judging.{true-false, places-say, places-then}
+use Rattle.session.proofs.Judging.{places-say, places-then}
 use Rattle.session.proofs.Lents.{long-says, fits-same}
 use Rattle.session.proofs.Step.{Fine, number-of, step}
 use Rattle.session.proofs.Spared.{spares-all}
@@ -63,7 +63,7 @@ run kind (t ∷ ts) b m k held fine linked =
 known-says : (k : Kind) → isKnown k ≡ true → k ≡ Known (cornerKind k)
 unfolding isKnown cornerKind
 known-says (Known k) e = refl
-known-says Unknown e = absurd (true-false false e refl)
+known-says Unknown e = absurd (true≢false (sym e))
 
 cut-places : (l : Lent) (k : CornerKind) → cutPlaces (l .shapes) (l .anchors) (l .radii) (Known k)
     ≡ placeOfPath (l .shapes) (λ s. viewOf (anchorAt (l .anchors)) (entry (l .radii)) (λ i. k) 128 (subAt (l .shapes) s))

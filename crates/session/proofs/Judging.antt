@@ -1,19 +1,14 @@
 -- Verdicts: tests that agree give one verdict, and what places that pass say. Assumes nothing.
 use mathlib.Core.Path.{_≡_, refl, sym, _∙_}
-use mathlib.Core.Bool.{Bool, true, false, _&&_}
+use mathlib.Core.Bool.{Bool}
 use Prim.Native.Nat.{ℕ, _<_}
-use native.Mathlib.Omega.{arith}
 use Rattle.views.proofs.Searches.{first-cong}
-use Rattle.refusal.specs.Order.{Test, passes, fails, holds, judge, firstFailing, Verdict, accepted, refused, verdict, tests}
+use Rattle.refusal.specs.Order.{Test, passes, fails, judge, firstFailing, Verdict, verdict, tests}
 use Rattle.refusal.proofs.Verdicts.{failing}
 use Rattle.path.proofs.Limits.{GoodBelow, search-to}
 use Rattle.call.specs.Tests.{places}
 use Rattle.call.proofs.Openings.{places-fail, places-pass}
 use mathlib.Core.Logic.{⊎-elim}
-
--- ---- Booleans
-pub true-false : (b : Bool) → b ≡ true → b ≡ false → ⊥
-true-false b e f = let z : _≡_ {A = ℕ} 0 1 = cc in omega arith
 
 -- by place: all pass, and then what is tested after them
 module _ (good : ℕ → Bool) (n : ℕ) (after : Test) (h : places good n after ≡ passes) where

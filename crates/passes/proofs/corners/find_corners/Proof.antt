@@ -13,7 +13,8 @@ use Rattle.corner.specs.declared.cut.CornerKind.{CornerKind}
 use Rattle.cut.specs.Subpath.{viewOf}
 use Rattle.cut.specs.Near.{near}
 use Rattle.cut.specs.Rows.{rowAt, RowHeld}
-use Rattle.cut.proofs.Steps.{not-both, near-span, before-span, span-in}
+use Rattle.views.proofs.Bools.{not-both}
+use Rattle.cut.proofs.Steps.{near-span, before-span, span-in}
 use Rattle.cut.proofs.HeldRows.{at-put-row, at-put-row-other}
 use Rattle.passes.proofs.FoundCorners.{row-held}
 use Rattle.passes.proofs.corners.find_corners.Statement.{statement}

@@ -20,7 +20,8 @@ use Rattle.cut.specs.Subpath.{viewOf}
 use Rattle.cut.specs.Near.{near}
 use Rattle.cut.specs.Places.{cornerAt, fittedAt, isCut, cutAt}
 use Rattle.cut.specs.Rows.{RowHeld, cutRowAt, flagOf}
-use Rattle.cut.proofs.Steps.{not-both, near-span, before-span, span-in}
+use Rattle.views.proofs.Bools.{not-both}
+use Rattle.cut.proofs.Steps.{near-span, before-span, span-in}
 use Rattle.cut.proofs.HeldRows.{at-put-cut, at-put-cut-other}
 use Rattle.passes.proofs.FoundCorners.{measured, row-here, fitted-held}
 use Rattle.passes.proofs.SmallRadii.{small-uncut}

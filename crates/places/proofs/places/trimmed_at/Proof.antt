@@ -8,7 +8,8 @@ use borrow.Author.Needs.{needs}
 use Rattle.path.specs.Flat.{anchorAt}
 use Rattle.path.specs.Shape.{next}
 use Rattle.cut.specs.Subpath.{viewOf}
-use Rattle.cut.proofs.Steps.{next-lt, or-left, or-right}
+use Rattle.views.proofs.Bools.{or-left, or-right}
+use Rattle.cut.proofs.Steps.{next-lt}
 use Rattle.places.proofs.Ends.{top, trimmed-cut, trimmed-kept}
 use Rattle.places.proofs.places.trimmed_at.Statement.{statement}
 use Rattle.places.proofs.places.trimmed_at.Tie as tie

@@ -1,11 +1,10 @@
 -- `side::table::param_at` meets its contract: the search finds the chord in which s falls. Assumes nothing.
 use mathlib.Core.Path.{_≡_, ap, _∙_}
 use mathlib.Core.List.{List}
-use Prim.Native.Nat.{ℕ, _-_, _^_, _≤_}
+use Prim.Native.Nat.{_-_, _^_, _≤_}
 use native.Mathlib.Omega.{arith}
 use lib.Dec.{le→leb}
 use lib.Ieee.{inFloat, lt}
-use borrow.Author.Needs.{needs}
 use Rattle.views.specs.View.{entry}
 use Rattle.views.specs.Search.{firstFalse}
 use Rattle.geom.specs.declared.point.P.{P}
