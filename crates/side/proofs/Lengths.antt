@@ -1,9 +1,9 @@
 -- Lengths along a curve, chord by chord, and the chord in which one falls. Assumes nothing.
-use mathlib.Core.Path.{_≡_, ap, _∙_}
+use mathlib.Core.Path.{_≡_, refl, ap, ap₂, _∙_}
 use mathlib.Core.Bool.{false}
 use mathlib.Core.List.{List}
 use mathlib.Core.Logic.{⊎-elim}
-use Prim.Native.Nat.{ℕ, _+_, _≤_}
+use Prim.Native.Nat.{ℕ, zero, suc, _+_, _≤_, _<_}
 use native.Mathlib.Nat.{le-refl}
 use native.Mathlib.Numerals.{add-one}
 use native.Mathlib.Omega.{arith}
@@ -16,16 +16,28 @@ use Rattle.views.proofs.Searches.{first-cong}
 use Rattle.real.specs.Operators.{_⊕_}
 use Rattle.real.specs.Sums.{running}
 use Rattle.geom.specs.declared.point.P.{P}
-use Rattle.geom.specs.Point.{dist}
+use Rattle.root.specs.Root.{rootOf}
+use Rattle.geom.specs.Point.{dot, len, dist}
 use Rattle.cubic.specs.Sample.{stepAt, chord}
 use Rattle.cubic.proofs.Chords.{chord-first}
 use Rattle.side.specs.declared.side.Side.{Side}
-use Rattle.side.specs.Side.{isStraightSide, arclenTable, lengthOf, chordOf, chordAt}
+use Rattle.side.specs.Side.{isStraightSide, chordSquare, arclenTable, lengthOf, chordOf, chordAt}
 
 -- one chord more
 pub length-next : (c : List P) (n k : ℕ) → running (chord c n) (k + 1) ≡ running (chord c n) k ⊕ dist (stepAt c n k) (stepAt c n (k + 1))
 unfolding running chord
 length-next c n k = ap (running (chord c n)) (add-one k)
+
+-- a chord is the root of its square
+pub chord-root : (c : List P) (n k : ℕ) → rootOf (chordSquare c n k) ≡ chord c n k
+unfolding chordSquare chord dist len dot
+chord-root c n k = refl
+
+-- sums of the same numbers
+pub running-cong : (f g : ℕ → Float) (n : ℕ) → ((k : ℕ) → k < n → f k ≡ g k) → running f n ≡ running g n
+unfolding running
+running-cong f g zero h = refl
+running-cong f g (suc n) h = ap₂ _⊕_ (running-cong f g n (λ k l. h k (omega arith))) (h n (omega arith))
 
 -- the table's entries
 pub table-at : (c : List P) (n i : ℕ) → i ≤ n → entry (arclenTable c n) i ≡ running (chord c n) i

@@ -12,10 +12,10 @@ use Rattle.real.specs.StandIns.{clamp}
 use Rattle.real.specs.Finite.{isFinite}
 use Rattle.real.specs.Sums.{running}
 use Rattle.geom.specs.declared.point.P.{P}
-use Rattle.geom.specs.Point.{plus, minus, times, len, dist}
+use Rattle.geom.specs.Point.{plus, minus, times, dot, len, dist}
 use Rattle.geom.specs.Flat.{pt}
 use Rattle.cubic.specs.Cubic.{CEPS, four, cubicAt, derivAt}
-use Rattle.cubic.specs.Sample.{chord}
+use Rattle.cubic.specs.Sample.{stepAt, chord}
 use Rattle.side.specs.declared.side.Side.{Side}
 use Rattle.side.specs.declared.side.Direction.{Direction}
 use Rattle.side.specs.declared.side.Direction.the-variants.{Along, Nowhere}
@@ -43,6 +43,10 @@ towards d else = cond (lt CEPS (len d)) (Along (unit d)) else
 
 unfoldable pub direction : Side → Direction
 direction o = towards (away (o .c) 1) (towards (away (o .c) 2) (towards (away (o .c) 3) Nowhere))
+
+-- the square of which chord k of n is the root
+unfoldable pub chordSquare : List P → ℕ → ℕ → Float
+chordSquare c n k = let d = minus (stepAt c n k) (stepAt c n (k + 1)) in dot d d
 
 -- `arclen_table`: the n + 1 running sums of n chords
 unfoldable pub arclenTable : List P → ℕ → List Float

@@ -2,15 +2,17 @@
 ghost use mathlib.Core.Path.{_≡_};
 ghost use mathlib.Core.Bool.{true};
 ghost use mathlib.Core.List.{List};
+ghost use Prim.Native.Nat.{ℕ, _+_, _<_};
 ghost use lib.ListN.{length};
 ghost use lib.Ieee.{lt};
-ghost use Rattle.views.specs.View.{entry};
+ghost use Rattle.root.specs.Root.{rootOf};
+ghost use Rattle.views.specs.View.{entry, tabulate};
 ghost use Rattle.views.specs.Search.{firstFalse};
 ghost use Rattle.real.specs.Sums.{running};
 ghost use Rattle.geom.specs.declared.point.P.{P};
 ghost use Rattle.cubic.specs.Limits.{curveIn};
 ghost use Rattle.cubic.specs.Sample.{chord};
-ghost use Rattle.side.specs.Side.{longEnough, arclenTable, chordOf, chordAt, share, paramAt, atCurve};
+ghost use Rattle.side.specs.Side.{longEnough, chordSquare, arclenTable, chordOf, chordAt, share, paramAt, atCurve};
 use crate::side::At;
 use crate::side::unit;
 use geom::P;
@@ -50,19 +52,40 @@ pub fn first_chords(c: [P; 4]) -> f64
     so_far
 }
 
-// The sums of the first 0, 1, .. 128 chords, the last of which is the curve's length.
+// The sums of the first 0, 1, .. 128 chords, the last of which is the curve's length. The squares of all chords come first, then their
+// roots: a processor has more of either under way at once than of both together.
 pub fn arclen_table(c: [P; 4], table: &mut [f64])
     requires { ⌜ length (now table) ≡ 129 ⌝ }
     ensures { λ _. ⌜ now (table .exit) ≡ arclenTable c 128 ⌝ }
 {
-    let mut sum = 0.0;
-    table[0] = sum;
+    put_squares(c, table);
+    add_roots(table);
+}
+
+// The square of each chord, at the index of its end.
+fn put_squares(c: [P; 4], table: &mut [f64])
+    requires { ⌜ length (now table) ≡ 129 ⌝ }
+    ensures { λ _. ⌜ ((k : ℕ) → k < 128 → entry (now (table .exit)) (k + 1) ≡ chordSquare c 128 k) ⌝ }
+{
     let mut p = cubic::step_at(c, CHORDS, 0);
     for k in 0..CHORDS {
         let q = cubic::step_at(c, CHORDS, k + 1);
-        sum = sum + p.dist(q);
-        table[k + 1] = sum;
+        let d = p.sub(q);
+        table[k + 1] = d.dot(d);
         p = q;
+    }
+}
+
+// The sums of the roots of the numbers from index 1 on.
+fn add_roots(table: &mut [f64])
+    requires { ⌜ length (now table) ≡ 129 ⌝ }
+    ensures { λ _. ⌜ now (table .exit) ≡ tabulate 129 (running (λ k. rootOf (entry (now (table .entry)) (k + 1)))) ⌝ }
+{
+    let mut sum = 0.0;
+    table[0] = sum;
+    for k in 0..CHORDS {
+        sum = sum + root::root(table[k + 1]);
+        table[k + 1] = sum;
     }
 }
 
