@@ -1,5 +1,6 @@
 -- How the C interface hands over what a call answers: the refusal's number, 0 where accepted, and the words place, count, subpaths, recut. Assumes nothing.
 use Prim.Native.Nat.{ℕ}
+use mathlib.Core.Path.{_≡_}
 use mathlib.Core.List.{List, [], _∷_}
 use lib.Ieee.{Float}
 use Rattle.views.specs.View.{entry}
@@ -13,6 +14,9 @@ use Rattle.call.specs.declared.answers.Outline.{Outline}
 use Rattle.call.specs.declared.answers.Outline.the-variants as outline
 use Rattle.session.specs.declared.answers.Edited.{Edited}
 use Rattle.session.specs.declared.answers.Edited.the-variants as edited
+use Rattle.session.specs.Drawing.{Lent}
+use Rattle.session.specs.Edits.{Call}
+use Rattle.session.specs.Calls.{callAnswer, callLists}
 use Rattle.replay.specs.declared.calls.Replayed.{Replayed}
 use Rattle.replay.specs.declared.calls.Replayed.the-variants as replayed
 use Rattle.corner_calls.specs.declared.calls.Corners.{Corners}
@@ -101,6 +105,12 @@ editedCode (edited.Accepted recut count) = 0
 unfoldable pub editedWords : Edited → List ℕ
 editedWords (edited.Refused n place) = words place 0
 editedWords (edited.Accepted recut count) = 0 ∷ count ∷ 0 ∷ recut ∷ []
+
+-- on the lists l an edit c gives the number `code`, leaves these words in answer[4] and the lists `after`
+pub record Tells (l : Lent) (kind : ℕ) (c : Call) (code : ℕ) (told : List ℕ) (after : Lent) : Type 0 where
+  pub number : code ≡ editedCode (callAnswer l kind c)
+  pub answer : told ≡ editedWords (callAnswer l kind c)
+  pub lists : after ≡ callLists l kind c
 
 -- ---- a list of calls
 unfoldable pub replayedCode : Replayed → ℕ

@@ -3,7 +3,7 @@ use mathlib.Core.Path.{_≡_, refl, ap, ap₂, _∙_}
 use mathlib.Core.Bool.{Bool, true, false, cond}
 use mathlib.Core.List.{List, [], _∷_, _++_}
 use Prim.Native.Nat.{ℕ, zero, suc, _+_, _*_, _≤_, _<_}
-use native.Mathlib.Nat.{add-zero, le-refl}
+use native.Mathlib.Nat.{le-refl}
 use native.Mathlib.Numerals.{add-one}
 use native.Mathlib.Omega.{arith}
 use lib.ListN.{length, take, length-append}
@@ -12,7 +12,7 @@ use borrow.Author.Tests.{le-leb, lt-leb}
 use Rattle.views.specs.View.{tabulate, overwrite}
 use Rattle.views.specs.Search.{count}
 use Rattle.views.proofs.Laws.{length-tabulate, as-tabulate, tabulate-more, length-overwrite, at-overwrite}
-use Rattle.views.proofs.Searches.{count-more, count-same}
+use Rattle.views.proofs.Searches.{count-none, count-add}
 use Rattle.path.specs.Shape.{countOf, closedOf, total, wordAt, wordOf, start}
 use Rattle.path.proofs.Shapes.{total-next, total-in, total-end}
 use Rattle.path.specs.declared.anchor.Anchor.{Anchor}
@@ -31,21 +31,6 @@ count-most p (suc n) = go (p zero) (count-most (λ k. p (suc k)) n)
     go : (b : Bool) → count (λ k. p (suc k)) n ≤ n → cond b (suc (count (λ k. p (suc k)) n)) (count (λ k. p (suc k)) n) ≤ suc n
     go true l = omega arith
     go false l = omega arith
-
-count-none : (p : ℕ → Bool) → count p 0 ≡ 0
-unfolding count
-count-none p = refl
-
--- a count in two parts
-count-add : (p : ℕ → Bool) (a b : ℕ) → count p (a + b) ≡ count p a + count (λ i. p (a + i)) b
-count-add p a zero = rw (add-zero, count-none (λ i. p (a + i)), add-zero)
-count-add p a (suc b) =
-    let x : a + suc b ≡ a + b + 1 = omega arith in
-    rw (x, ← add-one b) (step (p (a + b)) refl (count-add p a b))
-  where
-    step : (t : Bool) → p (a + b) ≡ t → count p (a + b) ≡ count p a + count (λ i. p (a + i)) b → count p (a + b + 1) ≡ count p a + count (λ i. p (a + i)) (b + 1)
-    step true e h = omega (arith, count-more p (a + b) e, count-more (λ i. p (a + i)) b e)
-    step false e h = omega (arith, count-same p (a + b) e, count-same (λ i. p (a + i)) b e)
 
 -- ---- how many anchors: one a place, and one more where it is cut
 
@@ -67,7 +52,7 @@ outline-next shapes f m = rw (add-one m)
 module _ (shapes : List ℕ) (f : ℕ → Place) where
   up-to-length : (m : ℕ) → m ≤ length shapes → length (outlineUpTo shapes f m) ≡ start shapes m + count (λ k. f k .cut) (start shapes m)
   unfolding outlineUpTo subpathOutline
-  up-to-length zero l = omega (arith, count-none (λ k. f k .cut))
+  up-to-length zero l = omega (arith, count-none (λ k. f k .cut) 0 (λ k h. absurd (omega arith)))
   up-to-length (suc m) l =
       let n = countOf (wordAt shapes m) in
       let t : start shapes (suc m) ≡ start shapes m + n = rw (add-one m) at (total-next shapes m l) in

@@ -1,9 +1,7 @@
 -- The places of a path within reach of an index of a subpath: which, how many, and the twelve numbers of a place. Assumes nothing.
-use mathlib.Core.Path.{_≡_, refl, ap, _∙_}
-use mathlib.Core.Bool.{Bool, true, false}
-use Prim.Native.Nat.{ℕ, zero, suc, _+_, _-_, _≤_, _<_}
-use native.Mathlib.Nat.{add-zero}
-use native.Mathlib.Numerals.{add-one}
+use mathlib.Core.Path.{_≡_, ap, _∙_}
+use mathlib.Core.Bool.{false}
+use Prim.Native.Nat.{ℕ, _+_, _-_, _≤_, _<_}
 use native.Mathlib.Omega.{arith}
 use lib.ListN.{List·getD-append}
 use lib.Seq.{getD-append-add}
@@ -11,7 +9,7 @@ use lib.Ieee.{nan}
 use borrow.Author.Tests.{lt-ltb, le-ltb, le-leb, lt-leb}
 use Rattle.views.specs.View.{entry}
 use Rattle.views.specs.Search.{count}
-use Rattle.views.proofs.Searches.{count-cong, count-none, count-more, count-same}
+use Rattle.views.proofs.Searches.{count-cong, count-none, count-add}
 use Rattle.path.specs.Flat.{numbers}
 use Rattle.cut.specs.declared.places.Place.{Place}
 use Rattle.cut.specs.View.{View}
@@ -41,17 +39,6 @@ module _ (v : View) (first reach at k : ℕ) where
   pub reached-past : first + v .n ≤ k → reached v first reach at k ≡ false
   unfolding reached
   reached-past l = rw (le-leb first k (omega arith), le-ltb k (first + v .n) l)
-
--- ---- counts in parts
-count-add : (p : ℕ → Bool) (a b : ℕ) → count p (a + b) ≡ count p a + count (λ i. p (a + i)) b
-count-add p a zero = rw (add-zero, count-none (λ i. p (a + i)) 0 (λ k l. absurd (omega arith)), add-zero)
-count-add p a (suc b) =
-    let x : a + suc b ≡ a + b + 1 = omega arith in
-    rw (x, ← add-one b) (step (p (a + b)) refl (count-add p a b))
-  where
-    step : (t : Bool) → p (a + b) ≡ t → count p (a + b) ≡ count p a + count (λ i. p (a + i)) b → count p (a + b + 1) ≡ count p a + count (λ i. p (a + i)) (b + 1)
-    step true e h = omega (arith, count-more p (a + b) e, count-more (λ i. p (a + i)) b e)
-    step false e h = omega (arith, count-same p (a + b) e, count-same (λ i. p (a + i)) b e)
 
 -- ---- the places of a path that are reached are those of the subpath, each once
 pub reached-count : (v : View) (first reach at n : ℕ) → first + v .n ≤ n → count (reached v first reach at) n ≡ nearCount reach (v .n) (v .closed) at

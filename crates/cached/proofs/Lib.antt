@@ -1,4 +1,5 @@
 pub mod Openings
-pub mod Edits
+pub mod Plans
 pub mod Moves
 pub mod Radii
+pub mod OneAnchor

@@ -1,25 +1,22 @@
 -- What the first tests of a cached edit come to, and what an edit that passed them may rest on. Assumes nothing.
-use mathlib.Core.Path.{_≡_, refl, sym, ap, _∙_}
-use mathlib.Core.Bool.{Bool, true, false, _&&_, cond}
-use mathlib.Core.List.{List}
-use Prim.Native.Nat.{ℕ, _+_, _*_, _≤_, _<_}
+use mathlib.Core.Path.{_≡_, refl, sym, _∙_}
+use mathlib.Core.Bool.{Bool, true, false, _&&_}
+use Prim.Native.Nat.{ℕ, _≤_}
 use native.Mathlib.Omega.{arith}
-use lib.Dec.{leb, ltb}
+use lib.Dec.{leb}
 use lib.ListN.{length}
-use lib.Ieee.{Float}
-use borrow.Author.Tests.{leb-true, ltb-true}
+use borrow.Author.Tests.{leb-true}
 use Rattle.views.proofs.Bools.{and-left, and-right}
 use Rattle.refusal.specs.Order.{Test, passes, fails, holds, judge, Verdict, accepted, refused}
 use Rattle.refusal.proofs.Verdicts.{holds-true, holds-false, in-order, holds-says}
 use Rattle.path.specs.declared.shape.Sized.the-variants.{Wrong}
 use Rattle.path.specs.declared.shape.Sized.the-variants as sized
-use Rattle.path.specs.Shape.{countOf, total, wordAt, start, hasAnchor}
+use Rattle.path.specs.Shape.{total}
 use Rattle.path.specs.Limit.{placeIn}
-use Rattle.path.proofs.Shapes.{total-in}
 use Rattle.path.proofs.Limits.{GoodBelow}
 use Rattle.corner.specs.declared.cut.CornerKind.{CornerKind}
 use Rattle.call.specs.declared.opening.Opened.the-variants as opened
-use Rattle.call.specs.Tests.{places, drawingFits, drawingLimit, openedDrawing}
+use Rattle.call.specs.Tests.{drawingFits, drawingLimit, openedDrawing}
 use Rattle.call.proofs.Openings.{places-pass, open-lists, answer-refused, answer-open}
 use Rattle.cut_calls.specs.declared.kinds.Kind.the-variants as kinds
 use Rattle.cut_calls.specs.CornerKinds.{kindOf, isKnown}
@@ -164,39 +161,24 @@ module _ (l : Lent) where
         same-refusal : (c k d l : ℕ) → Refused c k ≡ Refused d l → refused c k ≡ refused d l
         same-refusal c k d l e = cc
 
+    number-not : (a b : Test) (c k : ℕ) → ready (judge a 7 (judge b 5 accepted)) n (cornerKind (kindOf kind)) ≡ Refused c k → c ≡ 0 → ⊥
+    unfolding ready judge
+    number-not passes passes c k e z = differ c k n (cornerKind (kindOf kind)) (sym e)
+    number-not passes (fails i) c k e z = other-number i c k e z
+      where
+        other-number : (i c k : ℕ) → Refused 5 i ≡ Refused c k → c ≡ 0 → ⊥
+        other-number i c k e z = let y : 5 ≡ c = cc in omega arith
+    number-not (fails i) b c k e z = other-number i c k e z
+      where
+        other-number : (i c k : ℕ) → Refused 7 i ≡ Refused c k → c ≡ 0 → ⊥
+        other-number i c k e z = let y : 7 ≡ c = cc in omega arith
+
+    -- a refusal's number is not 0
+    pub ready-number : (c k : ℕ) → readyOf l kind loose ≡ Refused c k → c ≡ 0 → ⊥
+    unfolding readyOf
+    ready-number c k h = number-not _ _ c k h
+
   -- an edit whose own numbers these are
   pub edit-closed : (kind : ℕ) (e : Edit) (c k : ℕ) → readyOf l kind (e .loose) ≡ Refused c k → editVerdict l kind e ≡ refused c k
   unfolding readyOf editVerdict
   edit-closed kind e c k h = in-order _ _ _ _ _ _ ∙ refused-tests kind (e .loose) _ _ c k _ h
-
--- ---- an anchor that is there: its subpath stands in every list
-module _ (l : Lent) (kind : ℕ) (loose : Bool) (m : ℕ) (way : CornerKind) (is : readyOf l kind loose ≡ Known m way) (s i : ℕ) (has : hasAnchor (l .shapes) s i ≡ true) where
-  pub record Standing : Type 0 where
-    pub there : s < length (l .shapes)
-    pub inside : i < countOf (wordAt (l .shapes) s)
-    pub words : length (l .shapes) ≤ 32
-    pub few : total (l .shapes) ≤ 512
-    pub path : start (l .shapes) s + countOf (wordAt (l .shapes) s) ≤ total (l .shapes)
-    pub anchors : total (l .shapes) * 6 ≤ length (l .anchors)
-    pub radii : total (l .shapes) ≤ length (l .radii)
-    pub numbers : total (l .shapes) * 12 ≤ length (l .numbers)
-    pub flags : total (l .shapes) ≤ length (l .flags)
-
-  pub standing : Standing
-  unfolding hasAnchor lengthsOf
-  standing =
-      let r = ready-says l kind loose m way is in
-      let a = ltb s (length (l .shapes)) in
-      let b = ltb i (countOf (wordAt (l .shapes) s)) in
-      let t = ltb-true s (length (l .shapes)) (and-left a b has) in
-      record {
-        there = t;
-        inside = ltb-true i (countOf (wordAt (l .shapes) s)) (and-right a b has);
-        words = r .words;
-        few = r .few;
-        path = total-in (l .shapes) s t;
-        anchors = r .long .anchors;
-        radii = r .long .radii;
-        numbers = r .long .numbers;
-        flags = r .long .flags;
-      }

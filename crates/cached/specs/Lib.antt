@@ -1,1 +1,3 @@
 pub mod Opening
+pub mod Doing
+pub mod Planning

@@ -1,21 +1,18 @@
 // The cached edit that moves an anchor: 7, 5, 6, 9.
-ghost use mathlib.Core.Path.{_≡_};
-ghost use Rattle.path.specs.Limit.{anchorGood};
 ghost use Rattle.session.specs.Edits.{move};
-ghost use Rattle.session.specs.Calls.{callAnswer, callLists};
-ghost use Rattle.cached.specs.declared.opening.Ready.the-variants.{Known};
-ghost use Rattle.cached.specs.Opening.{lent, readyOf};
-use crate::opening::Ready;
-use crate::opening::open_edit;
+ghost use Rattle.cached.specs.Opening.{lent};
+ghost use Rattle.cached.specs.Doing.{Does};
 use crate::opening::sub_at;
-use corner::CornerKind;
+use crate::planning::AnchorEdit;
+use crate::planning::plan_edit;
+use crate::planning::reach_of;
 use cut::Window;
 use path::Anchor;
-use recutting::Recut;
-use recutting::recut_cache;
+use path::AnchorRef;
+use recutting::write_places;
 use session::Edited;
 
-// Six new numbers for anchor i of subpath s; the places within three steps are recut.
+// Six new numbers for an anchor; the places within three steps are recut.
 pub fn move_anchor(
     shapes: &[u32],
     anchors: &mut [f64],
@@ -23,70 +20,26 @@ pub fn move_anchor(
     kind: u32,
     numbers: &mut [f64],
     flags: &mut [u32],
-    s: usize,
-    i: usize,
+    at: AnchorRef,
     new: Anchor,
 ) -> Edited
-    ensures answer { λ r. ⌜ r ≡ callAnswer (lent (now (shapes .entry)) (now (anchors .entry)) (now (radii .entry)) (now (numbers .entry)) (now (flags .entry))) kind (move s i new) ⌝ }
-    ensures anchors { λ _. ⌜ now (anchors .exit) ≡ callLists (lent (now (shapes .entry)) (now (anchors .entry)) (now (radii .entry)) (now (numbers .entry)) (now (flags .entry))) kind (move s i new) .anchors ⌝ }
-    ensures numbers { λ _. ⌜ now (numbers .exit) ≡ callLists (lent (now (shapes .entry)) (now (anchors .entry)) (now (radii .entry)) (now (numbers .entry)) (now (flags .entry))) kind (move s i new) .numbers ⌝ }
-    ensures flags { λ _. ⌜ now (flags .exit) ≡ callLists (lent (now (shapes .entry)) (now (anchors .entry)) (now (radii .entry)) (now (numbers .entry)) (now (flags .entry))) kind (move s i new) .flags ⌝ }
+    ensures { λ r. ⌜ Does (lent (now (shapes .entry)) (now (anchors .entry)) (now (radii .entry)) (now (numbers .entry)) (now (flags .entry))) kind (move (at .subpath) (at .anchor) new) r (lent (now (shapes .entry)) (now (anchors .exit)) (now (radii .entry)) (now (numbers .exit)) (now (flags .exit))) ⌝ }
 {
-    let ready = open_edit(shapes, anchors, radii, kind, numbers, flags, new.in_limit());
-    match ready {
-        Ready::Refused(number, place) => Edited::Refused(number, place),
-        Ready::Known(n, way) => {
-            move_ready(
-                shapes,
-                anchors,
-                radii,
-                kind,
-                numbers,
-                flags,
-                s,
-                i,
-                new,
-                n,
-                way,
-            )
-        }
+    let e = AnchorEdit::Move(new);
+    let plan = plan_edit(shapes, anchors, radii, kind, numbers, flags, at, e);
+    let number = plan.number;
+    if number != 0 {
+        return Edited::Refused(number, plan.place);
     }
-}
-
-// Of a drawing of n anchors that passed 7 and 5. A refusal puts the old anchor back.
-fn move_ready(
-    shapes: &[u32],
-    anchors: &mut [f64],
-    radii: &[f64],
-    kind: u32,
-    numbers: &mut [f64],
-    flags: &mut [u32],
-    s: usize,
-    i: usize,
-    new: Anchor,
-    n: usize,
-    way: CornerKind,
-) -> Edited
-    requires { ⌜ readyOf (lent (now shapes) (now anchors) (now radii) (now numbers) (now flags)) kind (anchorGood new) ≡ Known n way ⌝ }
-    ensures answer { λ r. ⌜ r ≡ callAnswer (lent (now (shapes .entry)) (now (anchors .entry)) (now (radii .entry)) (now (numbers .entry)) (now (flags .entry))) kind (move s i new) ⌝ }
-    ensures anchors { λ _. ⌜ now (anchors .exit) ≡ callLists (lent (now (shapes .entry)) (now (anchors .entry)) (now (radii .entry)) (now (numbers .entry)) (now (flags .entry))) kind (move s i new) .anchors ⌝ }
-    ensures numbers { λ _. ⌜ now (numbers .exit) ≡ callLists (lent (now (shapes .entry)) (now (anchors .entry)) (now (radii .entry)) (now (numbers .entry)) (now (flags .entry))) kind (move s i new) .numbers ⌝ }
-    ensures flags { λ _. ⌜ now (flags .exit) ≡ callLists (lent (now (shapes .entry)) (now (anchors .entry)) (now (radii .entry)) (now (numbers .entry)) (now (flags .entry))) kind (move s i new) .flags ⌝ }
-{
-    if !path::has_anchor(shapes, s, i) {
-        return Edited::Refused(refusal::REFERENCE, 0);
-    }
-    let sub = sub_at(shapes, s);
-    let place = sub.first + i;
-    let old = path::anchor_at(anchors, place);
-    path::put_anchor(anchors, place, new);
-    let w = Window { at: i, reach: 3 };
-    let done = recut_cache(anchors, radii, way, sub, w, numbers, flags);
-    match done {
-        Recut::Bad(k) => {
-            path::put_anchor(anchors, place, old);
-            Edited::Refused(refusal::RESULT, k)
-        }
-        Recut::Count(count) => Edited::Accepted(count, n),
-    }
+    let sub = sub_at(shapes, at.subpath);
+    let i = at.anchor;
+    let w = Window {
+        at: i,
+        reach: reach_of(e),
+    };
+    let made = plan.numbers;
+    let marks = plan.flags;
+    path::put_anchor(anchors, sub.first + i, new);
+    write_places(sub, w, plan.from, &made, &marks, numbers, flags);
+    Edited::Accepted(plan.count, plan.total)
 }

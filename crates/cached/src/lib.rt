@@ -1,6 +1,7 @@
 // The cached edits of one anchor: an anchor moved, a radius set, on a lent drawing and its lent cut cache, in place; and the first tests of every cached edit.
 mod anchors;
 mod opening;
+mod planning;
 mod radius;
 
 pub use anchors::move_anchor;

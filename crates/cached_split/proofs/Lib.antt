@@ -1,3 +1,4 @@
 pub mod Makes
+pub mod Halves
 pub mod Splitting
-pub mod RowSplits
+pub mod Leaving

@@ -4,15 +4,13 @@ use mathlib.Core.Logic.{⊎-elim}
 use mathlib.Core.List.{List}
 use Prim.Native.Nat.{ℕ, _+_, _-_, _*_, _/_, _%_, _≤_, _<_}
 use native.Mathlib.Omega.{arith}
-use lib.Dec.{eqb}
-use lib.ListN.{length, getD, set, length-set, take, drop}
+use lib.ListN.{length, getD, set, length-set}
 use lib.Seq.{getD-set-same, getD-set-other}
 use lib.Ieee.{Float, nan}
 use borrow.Author.Tests.{eq-eqb, ne-eqb}
 use Rattle.views.specs.View.{entry, overwrite}
-use Rattle.views.proofs.Laws.{order, same, length-overwrite, at-overwrite, past-overwrite, as-overwrite, overwrite-cong}
+use Rattle.views.proofs.Laws.{order, same, length-overwrite, at-overwrite, past-overwrite, as-overwrite}
 use Rattle.real.specs.Operators.{0f}
-use Rattle.path.specs.declared.anchor.Anchor.{Anchor}
 use Rattle.path.specs.Flat.{anchorAt, anchorNumbers, putAnchor, listed}
 use Rattle.cut.specs.Near.{old}
 use Rattle.cut.proofs.Locality.{old-low, old-high}
@@ -20,11 +18,8 @@ use Rattle.edit.specs.declared.splitting.Halved.{Halved}
 use Rattle.edit.specs.Gap.{gapped}
 use Rattle.edit.specs.Split.{halves, shifted, splitAnchors, splitPlaces}
 use Rattle.edit.proofs.Gaps.{length-gap, gap-past, gap-below, gap-above}
-use Rattle.edit.proofs.Splits.{shifted-low, shifted-high, length-split, stored, length-stored, number, split-stored}
+use Rattle.edit.proofs.Splits.{length-split, stored, length-stored, number, split-stored}
 use Rattle.session.specs.Edits.{splitRadii}
-use Rattle.session.proofs.Splits.{old-below}
-use Rattle.session.proofs.Lents.{anchor-same}
-use Rattle.recutting.proofs.Parts.{replaced}
 use Rattle.cached_split.specs.Splitting.{shiftedFlags}
 
 -- ---- a gap after group a of n leaves in each group what stood there
@@ -44,56 +39,7 @@ overwrite-twice d m n f g xs l k =
     (λ i h. at-overwrite d n f (overwrite m g xs) i h (omega arith))
     (λ i h. past-overwrite d n f (overwrite m g xs) i h ∙ past-overwrite d m g xs i (omega arith))
 
--- ---- a part of a list, written
-pub part-written : {A : Type 0} (f : List A → List A) (a k m : ℕ) (ys gs zs : List A) → k ≡ m → ys ≡ gs → zs ≡ f (take k (drop a ys)) → replaced a k zs ys ≡ replaced a m (f (take m (drop a gs))) gs
-part-written f a k m ys gs zs e g h = rw (h, g, e)
-
--- ---- a segment split in a part of a drawing, n places from place d on
-eqb-part : (d i j : ℕ) → eqb i j ≡ eqb (d + i) (d + j)
-eqb-part d i j =
-    ⊎-elim
-    (λ (e : i ≡ j). eq-eqb i j e ∙ sym (eq-eqb (d + i) (d + j) (omega arith)))
-    (λ (ne : i ≡ j → ⊥). ne-eqb i j ne ∙ sym (ne-eqb (d + i) (d + j) (λ e. ne (omega arith))))
-    (same i j)
-
-old-part : (d a k : ℕ) → old (d + a) (d + k) ≡ d + old a k
-old-part d a k =
-    ⊎-elim
-    (λ (m : k ≤ a). old-low (d + a) (d + k) (omega arith) ∙ ap (λ z. d + z) (sym (old-low a k m)))
-    (λ (m : a < k). old-high (d + a) (d + k) (omega arith) ∙ rw (old-high a k m) (omega arith))
-    (order k a)
-
-shifted-part : (d a b : ℕ) → shifted (d + a) (d + b) ≡ d + shifted a b
-shifted-part d a b =
-    ⊎-elim
-    (λ (m : b ≤ a). shifted-low (d + a) (d + b) (omega arith) ∙ ap (λ z. d + z) (sym (shifted-low a b m)))
-    (λ (m : a < b). shifted-high (d + a) (d + b) (omega arith) ∙ rw (shifted-high a b m) (omega arith))
-    (order b a)
-
-module _ (n d a : ℕ) (la : a < n) (from : ℕ) (is-from : from ≡ d + a) where
-  pub split-part : (f g : ℕ → Anchor) (b to : ℕ) (t : Float) → b < n → to ≡ d + b → ((k : ℕ) → k < n → f k ≡ g (d + k))
-      → (k place : ℕ) → k < n + 1 → place ≡ d + k → splitAnchors f a b t k ≡ splitAnchors g from to t place
-  unfolding splitAnchors
-  split-part f g b to t lb is-to h k place l is-place =
-      let e : d + a + 1 ≡ d + (a + 1) = omega arith in
-      rw (is-from, is-to, is-place, e, shifted-part d a b, ← eqb-part d k a, ← eqb-part d k (a + 1), ← eqb-part d k (shifted a b), old-part d a k, h a la, h b lb, h (old a k) (old-below n a k la l))
-
-  pub radii-part : (r q : ℕ → Float) → ((k : ℕ) → k < n → r k ≡ q (d + k)) → (k place : ℕ) → k < n + 1 → place ≡ d + k → splitRadii r a k ≡ splitRadii q from place
-  unfolding splitRadii
-  radii-part r q h k place l is-place =
-      let e : d + a + 1 ≡ d + (a + 1) = omega arith in
-      rw (is-from, is-place, e, ← eqb-part d k (a + 1), old-part d a k, h (old a k) (old-below n a k la l))
-
-  -- number by number
-  pub numbers-part : (f g : ℕ → Anchor) (b to : ℕ) (t : Float) → b < n → to ≡ d + b → ((k : ℕ) → k < n → f k ≡ g (d + k))
-      → (j place : ℕ) → j < (n + 1) * 6 → place ≡ d * 6 + j → anchorNumbers (splitAnchors f a b t) j ≡ anchorNumbers (splitAnchors g from to t) place
-  unfolding anchorNumbers
-  numbers-part f g b to t lb is-to h j place l is-place =
-      let x : place / 6 ≡ d + j / 6 = omega arith in
-      let y : place % 6 ≡ j % 6 = omega arith in
-      rw (y, split-part f g b to t lb is-to h (j / 6) (place / 6) (omega arith) x)
-
--- ---- anchors, in place and of a copy
+-- ---- anchors, in place
 module _ (xs : List Float) (n a b : ℕ) (t : Float) (la : a < n) (lb : b < n) (p : a ≡ b → ⊥) where
   module _ (long : n * 6 + 6 ≤ length xs) where
     abbrev put : List Float
@@ -118,21 +64,7 @@ module _ (xs : List Float) (n a b : ℕ) (t : Float) (la : a < n) (lb : b < n) (
         ap (λ h. putAnchor (putAnchor (putAnchor (gapped xs (a + 1) n 6) a (h .left)) (a + 1) (h .middle)) (shifted a b) (h .right)) e
         ∙ as-overwrite nan put xs ((n + 1) * 6) _ (length-stored xs n a b t p la lb long) put-in put-past
 
-  module _ (zs : List Float) (long : n * 6 + 6 ≤ length zs) where
-    abbrev ys : List Float
-    ys = overwrite (n * 6) (entry xs) zs
-
-    copied : (k : ℕ) → k < n → anchorAt ys k ≡ anchorAt xs k
-    copied k l = anchor-same ys xs k (λ j h. at-overwrite nan (n * 6) (entry xs) zs j (omega arith) (omega arith))
-
-    pub anchors-made : overwrite ((n + 1) * 6) (anchorNumbers (splitAnchors (anchorAt (overwrite (n * 6) (entry xs) zs)) a b t)) (overwrite (n * 6) (entry xs) zs)
-        ≡ overwrite ((n + 1) * 6) (anchorNumbers (splitAnchors (anchorAt xs) a b t)) zs
-    anchors-made =
-        overwrite-twice nan (n * 6) ((n + 1) * 6) (anchorNumbers (splitAnchors (anchorAt ys) a b t)) (entry xs) zs (omega arith) (omega arith)
-        ∙ overwrite-cong ((n + 1) * 6) _ _ zs
-        (λ j l. numbers-part n 0 a la a (omega arith) (anchorAt ys) (anchorAt xs) b b t lb (omega arith) (λ k h. copied k h ∙ ap (anchorAt xs) (omega arith)) j j l (omega arith))
-
--- ---- radii, in place and of a copy
+-- ---- radii, in place
 module _ (xs : List Float) (n a : ℕ) (la : a < n) where
   module _ (long : n + 1 ≤ length xs) where
     abbrev gap : List Float
@@ -158,13 +90,6 @@ module _ (xs : List Float) (n a : ℕ) (la : a < n) where
 
     pub radii-put : set (gapped xs a n 1) (a + 1) 0f ≡ overwrite (n + 1) (splitRadii (entry xs) a) xs
     radii-put = as-overwrite nan (set gap (a + 1) 0f) xs (n + 1) (splitRadii (entry xs) a) (length-set gap (a + 1) 0f ∙ length-gap xs a n 1) radius-in radius-past
-
-  pub radii-made : (zs : List Float) → n + 1 ≤ length zs
-      → overwrite (n + 1) (splitRadii (entry (overwrite n (entry xs) zs)) a) (overwrite n (entry xs) zs) ≡ overwrite (n + 1) (splitRadii (entry xs) a) zs
-  radii-made zs long =
-      overwrite-twice nan n (n + 1) _ (entry xs) zs (omega arith) long
-      ∙ overwrite-cong (n + 1) _ _ zs
-      (λ k l. radii-part n 0 a la a (omega arith) (entry (overwrite n (entry xs) zs)) (entry xs) (λ k l. at-overwrite nan n (entry xs) zs k l (omega arith) ∙ ap (entry xs) (omega arith)) k k l (omega arith))
 
 -- ---- flags: one store more
 module _ (fs gs : List ℕ) (n i : ℕ) (l : 0 < i) (m : i ≤ n) (h : (j : ℕ) → j < n + 1 → getD gs j 0 ≡ getD fs (old i j) 0) where

@@ -1,120 +1,83 @@
 -- A segment split: what the code leaves, by what it found, is what the call's definition says. Assumes nothing.
 use mathlib.Core.Path.{_≡_, refl, sym, ap, _∙_}
+use mathlib.Core.Logic.{⊎-elim}
 use mathlib.Core.Bool.{Bool, true, false, not, _||_, cond}
-use mathlib.Core.List.{List}
-use Prim.Native.Nat.{ℕ, _+_, _*_, _/_, _%_, _≤_, _<_}
+use Prim.Native.Nat.{ℕ, _+_, _*_, _≤_, _<_}
 use native.Mathlib.Omega.{arith}
 use lib.Dec.{ltb, eqb}
 use lib.ListN.{length}
-use lib.Ieee.{Float, nan}
-use borrow.Author.Tests.{ltb-true}
+use lib.Ieee.{Float}
+use borrow.Author.Tests.{ltb-true, eq-eqb, ne-eqb, le-leb, lt-leb}
 use Rattle.path.specs.Limit.{anchorGood}
-use Rattle.views.specs.View.{entry, overwrite}
+use Rattle.views.specs.View.{entry}
 use Rattle.views.proofs.Bools.{and-left, and-right}
-use Rattle.views.proofs.Laws.{at-overwrite}
 use Rattle.real.specs.Limit.{inLimit}
 use Rattle.refusal.specs.Order.{accepted, refused}
-use Rattle.path.specs.declared.limit.Found.{Found}
+use Rattle.path.specs.declared.anchor.Anchor.{Anchor}
 use Rattle.path.specs.declared.limit.Found.the-variants.{At, Nothing}
-use Rattle.path.specs.Flat.{anchorAt, anchorNumbers}
+use Rattle.path.specs.Flat.{anchorAt}
 use Rattle.path.specs.Shape.{countOf, closedOf, total, wordAt, start, isSegment, next}
 use Rattle.path.proofs.Shapes.{total-in}
-use Rattle.path.proofs.Places.{anchor-number}
 use Rattle.path.proofs.Limits.{GoodBelow, first-is, none-is, good-cong, least-cong}
 use Rattle.corner.specs.declared.cut.CornerKind.{CornerKind}
-use Rattle.cut.specs.declared.subpath.Sub.{Sub}
 use Rattle.cut.specs.declared.subpath.Window.{Window}
 use Rattle.cut.specs.View.{View}
 use Rattle.cut.specs.Subpath.{viewOf}
-use Rattle.cut.specs.Near.{nearCount, old}
-use Rattle.cut.specs.Recut.{reached, recutNumbers, recutFlags}
+use Rattle.cut.specs.Near.{old}
+use Rattle.cut.specs.Recut.{reached}
 use Rattle.cut_calls.specs.PlainCut.{subAt}
 use Rattle.edit.specs.declared.splitting.Halved.{Halved}
-use Rattle.edit.specs.Gap.{gapped}
 use Rattle.edit.specs.Split.{halves, shifted, splitAnchors, putsWithin, splitShapes, hasSegment}
-use Rattle.edit.proofs.Gaps.{length-gap, gap-past}
 use Rattle.edit.proofs.Segments.{segment-says, next-other}
-use Rattle.session.specs.declared.answers.Edited.{Edited}
-use Rattle.session.specs.declared.answers.Edited.the-variants.{Refused, Accepted}
+use Rattle.session.specs.declared.answers.Edited.the-variants.{Accepted}
 use Rattle.session.specs.Drawing.{Lent, drawn, viewIn}
+use Rattle.cut.proofs.Steps.{next-in, next-round, segment-cases}
+use Rattle.real.specs.Operators.{0f}
 use Rattle.session.specs.Edits.{split, Edit, segmentStart, segmentEnd, splitRadii, splitAt, editOf}
-use Rattle.session.specs.Calls.{writtenGood, recutGood, editVerdict, callAnswer, callLists}
+use Rattle.session.specs.Calls.{writtenGood, recutGood, editVerdict, callAnswer}
 use Rattle.session.specs.Model.{lengthsOf, longFor, recutCount}
-use Rattle.session.proofs.Lents.{Long, long-says, room-same, anchor-is}
-use Rattle.session.proofs.Splits.{Like, split-start, split-count, split-closed, split-total, split-length}
-use Rattle.session.proofs.Recutting.{given-like}
-use Rattle.session.proofs.Accepted.{split-shapes-left, split-anchors-left, split-radii-left, split-numbers-left, split-flags-left}
-use Rattle.session.proofs.Outcomes.{out-reference, out-capacity, out-written, out-recut, out-room, out-pass, refused-answer, refused-lists, accepted-answer, accepted-lists}
-use Rattle.recutting.specs.declared.recutting.Recut.{Recut}
-use Rattle.recutting.specs.declared.recutting.Recut.the-variants.{Bad, Count}
+use Rattle.session.proofs.Lents.{room-same}
+use Rattle.session.proofs.Splits.{old-in, anchor-stood, radius-stood, split-start, split-count, split-closed, split-total, split-length}
+use Rattle.session.proofs.Outcomes.{out-reference, out-capacity, out-written, out-recut, out-room, out-pass, accepted-answer}
+use Rattle.recutting.specs.declared.plans.Plan.{Plan}
+use Rattle.recutting.specs.Stretch.{Accepts, placesFound}
 use Rattle.cached.specs.declared.opening.Ready.the-variants as ready
 use Rattle.cached.specs.Opening.{readyOf}
-use Rattle.recutting.specs.Near.{nearNumbers, nearFlags, recutFound, recutAnswerOf, recutNumbersLeft, recutFlagsLeft}
-use Rattle.cached_split.specs.Splitting.{grown, putsFound, shiftedFlags}
-use Rattle.cached.proofs.Openings.{ReadyFor, ready-says, edit-closed}
-use Rattle.recutting.proofs.Recuts.{all-ends, told-bad, told-count, numbers-recut, flags-recut}
-use Rattle.cached.proofs.Edits.{near-bad, near-good}
-use Rattle.cached_split.proofs.Makes.{gap-stood, length-shifted, flags-stood, flags-past}
+use Rattle.cached_split.specs.Splitting.{grown, putsFound}
+use Rattle.cached.proofs.Openings.{ReadyFor, ready-says}
+use Rattle.cached.proofs.Plans.{found-bad, found-good}
+use Rattle.cached_split.specs.Planning.{Halving, Granted}
 
--- ---- the ends of the segment, by its subpath
-module _ (shapes : List ℕ) (s a : ℕ) (here : Sub) (is-sub : here ≡ subAt shapes s) where
-  pub start-is : here .first + a ≡ segmentStart shapes s a
-  unfolding segmentStart subAt
-  start-is = rw is-sub
+-- ---- what a split puts where
+module _ (f : ℕ → Anchor) (a b : ℕ) (t : Float) where
+  split-left : splitAnchors f a b t a ≡ halves (f a) (f b) t .left
+  unfolding splitAnchors
+  split-left = rw (eq-eqb a a refl)
 
-  pub end-is : (to : ℕ) → to ≡ next (here .n) a → here .first + to ≡ segmentEnd shapes s a
-  unfolding segmentEnd subAt
-  end-is to e = rw (e, is-sub)
+  split-middle : splitAnchors f a b t (a + 1) ≡ halves (f a) (f b) t .middle
+  unfolding splitAnchors
+  split-middle = rw (ne-eqb (a + 1) a (λ e. omega arith), eq-eqb (a + 1) (a + 1) refl)
 
-  -- the drawing made, read back
-  pub radii-read : (xs zs rs : List Float) (n : ℕ) → rs ≡ overwrite (n + 1) (splitRadii (entry xs) (here .first + a)) zs → n + 1 ≤ length zs
-      → (k : ℕ) → k < n + 1 → entry rs k ≡ splitRadii (entry xs) (segmentStart shapes s a) k
-  radii-read xs zs rs n e l k h =
-      ap (λ q. entry q k) e ∙ at-overwrite nan (n + 1) (splitRadii (entry xs) (here .first + a)) zs k h (omega arith) ∙ ap (λ q. splitRadii (entry xs) q k) start-is
+  split-right : (shifted a b ≡ a → ⊥) → (shifted a b ≡ a + 1 → ⊥) → splitAnchors f a b t (shifted a b) ≡ halves (f a) (f b) t .right
+  unfolding splitAnchors
+  split-right x y = rw (ne-eqb (shifted a b) a x, ne-eqb (shifted a b) (a + 1) y, eq-eqb (shifted a b) (shifted a b) refl)
 
-  pub anchors-read : (xs zs ps : List Float) (n to : ℕ) (t : Float) → to ≡ next (here .n) a
-      → ps ≡ overwrite ((n + 1) * 6) (anchorNumbers (splitAnchors (anchorAt xs) (here .first + a) (here .first + to) t)) zs → n * 6 + 6 ≤ length zs
-      → (j : ℕ) → j < (n + 1) * 6 → entry ps j ≡ anchorNumbers (splitAnchors (anchorAt xs) (segmentStart shapes s a) (segmentEnd shapes s a) t) j
-  anchors-read xs zs ps n to t w e l j h =
-      ap (λ q. entry q j) e
-      ∙ at-overwrite nan ((n + 1) * 6) (anchorNumbers (splitAnchors (anchorAt xs) (here .first + a) (here .first + to) t)) zs j h (omega arith)
-      ∙ ap (λ q. anchorNumbers (splitAnchors (anchorAt xs) q (here .first + to) t) j) start-is
-      ∙ ap (λ q. anchorNumbers (splitAnchors (anchorAt xs) (segmentStart shapes s a) q t) j) (end-is to w)
-
-  pub found-read : (xs : List Float) (n to : ℕ) (t : Float) → to ≡ next (here .n) a → (found : Found) → found ≡ putsFound (anchorAt xs) (here .first + a) (here .first + to) t (n + 1)
-      → found ≡ putsFound (anchorAt xs) (segmentStart shapes s a) (segmentEnd shapes s a) t (n + 1)
-  found-read xs n to t w found e =
-      e ∙ ap (λ q. putsFound (anchorAt xs) q (here .first + to) t (n + 1)) start-is ∙ ap (λ q. putsFound (anchorAt xs) (segmentStart shapes s a) q t (n + 1)) (end-is to w)
+split-zero : (r : ℕ → Float) (a : ℕ) → splitRadii r a (a + 1) ≡ 0f
+unfolding splitRadii
+split-zero r a = rw (eq-eqb (a + 1) (a + 1) refl)
 
 module _ (l : Lent) (kind s a : ℕ) (t : Float) where
   abbrev edit : Edit
   edit = editOf (drawn l kind) (split s a t)
-
-  -- the answer, and the five lists at exit
-  abbrev pub Left : Edited → Lent → Type 0
-  Left answer now =
-      (answer ≡ callAnswer l kind (split s a t)) × (now .shapes ≡ callLists l kind (split s a t) .shapes) × (now .anchors ≡ callLists l kind (split s a t) .anchors)
-      × (now .radii ≡ callLists l kind (split s a t) .radii) × (now .numbers ≡ callLists l kind (split s a t) .numbers) × (now .flags ≡ callLists l kind (split s a t) .flags)
-
-  -- a refusal leaves them as they were
-  unchanged : (c k : ℕ) → editVerdict l kind (editOf (drawn l kind) (split s a t)) ≡ refused c k → Left (Refused c k) l
-  unchanged c k v =
-      let e = refused-lists l kind (split s a t) c k v in
-      (refused-answer l kind (split s a t) c k v, ap (λ x. x .shapes) e, ap (λ x. x .anchors) e, ap (λ x. x .radii) e, ap (λ x. x .numbers) e, ap (λ x. x .flags) e)
-
-  -- ---- 7 and 5
-  pub split-shut : (c k : ℕ) → readyOf l kind (inLimit t) ≡ ready.Refused c k → Left (Refused c k) l
-  unfolding editOf
-  split-shut c k h = unchanged c k (edit-closed l kind edit c k h)
 
   module _ (m : ℕ) (way : CornerKind) (is : readyOf l kind (inLimit t) ≡ ready.Known m way) where
     r : ReadyFor l kind (inLimit t) m way
     r = ready-says l kind (inLimit t) m way is
 
     -- ---- 6
-    pub split-nowhere : hasSegment (l .shapes) s a ≡ false → Left (Refused 6 0) l
+    pub split-nowhere : hasSegment (l .shapes) s a ≡ false → editVerdict l kind (editOf (drawn l kind) (split s a t)) ≡ refused 6 0
     unfolding editOf drawn
-    split-nowhere h = unchanged 6 0 (out-reference l kind edit (r .fits) (r .good-places) (r .arguments) h)
+    split-nowhere h = out-reference l kind edit (r .fits) (r .good-places) (r .arguments) h
 
     -- ---- a segment that is there
     module _ (has : hasSegment (l .shapes) s a ≡ true) where
@@ -131,7 +94,7 @@ module _ (l : Lent) (kind s a : ℕ) (t : Float) where
       unfolding hasSegment
       there = ltb-true s (length (l .shapes)) (and-left (ltb s (length (l .shapes))) (isSegment size round a) has)
 
-      seg : isSegment (countOf (wordAt (l .shapes) s)) (closedOf (wordAt (l .shapes) s)) a ≡ true
+      pub seg : isSegment (countOf (wordAt (l .shapes) s)) (closedOf (wordAt (l .shapes) s)) a ≡ true
       unfolding hasSegment
       seg = and-right (ltb s (length (l .shapes))) (isSegment size round a) has
 
@@ -141,12 +104,12 @@ module _ (l : Lent) (kind s a : ℕ) (t : Float) where
       -- one anchor more
       made-total : total (splitShapes (l .shapes) s) ≡ m + 1
       unfolding drawn
-      made-total = split-total (drawn l kind) s a t there seg small ∙ ap (λ z. z + 1) (sym (r .count))
+      made-total = split-total (l .shapes) s a there seg small ∙ ap (λ z. z + 1) (sym (r .count))
 
       -- ---- 10
-      pub split-full : 512 ≤ m → Left (Refused 10 0) l
+      pub split-full : 512 ≤ m → editVerdict l kind (editOf (drawn l kind) (split s a t)) ≡ refused 10 0
       unfolding editOf splitAt drawn
-      split-full h = unchanged 10 0 (out-capacity l kind edit (r .fits) (r .good-places) (r .arguments) has (omega (arith, made-total)))
+      split-full h = out-capacity l kind edit (r .fits) (r .good-places) (r .arguments) has (omega (arith, made-total))
 
       -- ---- the segment's places in the lists
       pub record Placed : Type 0 where
@@ -215,11 +178,11 @@ module _ (l : Lent) (kind s a : ℕ) (t : Float) where
         few-made = omega (arith, made-total)
 
         module _ (k : ℕ) (found : putsFound (anchorAt (l .anchors)) (segmentStart (l .shapes) s a) (segmentEnd (l .shapes) s a) t (m + 1) ≡ At k) where
-          pub split-put-bad : Left (Refused 9 k) l
+          pub split-put-bad : editVerdict l kind (editOf (drawn l kind) (split s a t)) ≡ refused 9 k
           unfolding putsFound editOf splitAt drawn
           split-put-bad =
               let g = least-cong (putsWithin h from (shifted from to)) (writtenGood edit) (m + 1) (λ j i. written-same j) k (first-is (putsWithin h from (shifted from to)) (m + 1) k .0 found) in
-              unchanged 9 k (out-written l kind edit (r .fits) (r .good-places) (r .arguments) has few-made k (rw made-total g))
+              out-written l kind edit (r .fits) (r .good-places) (r .arguments) has few-made k (rw made-total g)
 
         module _ (found : putsFound (anchorAt (l .anchors)) (segmentStart (l .shapes) s a) (segmentEnd (l .shapes) s a) t (m + 1) ≡ Nothing) where
           written : GoodBelow (writtenGood (editOf (drawn l kind) (split s a t))) (total (splitShapes (l .shapes) s))
@@ -227,197 +190,149 @@ module _ (l : Lent) (kind s a : ℕ) (t : Float) where
           written =
               rw made-total (good-cong (putsWithin h from (shifted from to)) (writtenGood edit) (m + 1) (λ j i. written-same j) (none-is (putsWithin h from (shifted from to)) (m + 1) .0 found))
 
-          -- ---- with the drawing in scratch lists
-          module _ (ps rs : List Float)
-              (anchors-are : (j : ℕ) → j < (m + 1) * 6 → entry ps j ≡ anchorNumbers (splitAnchors (anchorAt (l .anchors)) (segmentStart (l .shapes) s a) (segmentEnd (l .shapes) s a) t) j)
-              (radii-are : (k : ℕ) → k < m + 1 → entry rs k ≡ splitRadii (entry (l .radii)) (segmentStart (l .shapes) s a) k) where
-            abbrev sub : Sub
-            sub = subAt (splitShapes (l .shapes) s) s
+          -- ---- the subpath as the split leaves it
+          made-there : s < length (splitShapes (l .shapes) s)
+          unfolding drawn
+          made-there = omega (arith, there, split-length (l .shapes) s a there seg small)
 
-            abbrev win : Window
-            win = record { at = a + 1; reach = 4 }
+          made-start : start (splitShapes (l .shapes) s) s ≡ start (l .shapes) s
+          unfolding drawn
+          made-start = split-start (l .shapes) s a there seg small
 
-            abbrev v : View
-            v = viewOf (anchorAt ps) (entry rs) (λ k. way) 128 (subAt (splitShapes (l .shapes) s) s)
+          made-count : countOf (wordAt (splitShapes (l .shapes) s) s) ≡ countOf (wordAt (l .shapes) s) + 1
+          unfolding drawn
+          made-count = split-count (l .shapes) s a there seg small
 
-            made-there : s < length (splitShapes (l .shapes) s)
-            unfolding drawn
-            made-there = omega (arith, there, split-length (drawn l kind) s a t there seg small)
+          made-closed : closedOf (wordAt (splitShapes (l .shapes) s) s) ≡ closedOf (wordAt (l .shapes) s)
+          unfolding drawn
+          made-closed = split-closed (l .shapes) s a there seg small
 
-            made-start : start (splitShapes (l .shapes) s) s ≡ start (l .shapes) s
-            unfolding drawn
-            made-start = split-start (drawn l kind) s a t there seg small
+          sub-made : subAt (splitShapes (l .shapes) s) s ≡ grown (subAt (l .shapes) s)
+          unfolding subAt
+          sub-made = rw (made-start, made-count, made-closed)
 
-            made-count : countOf (wordAt (splitShapes (l .shapes) s) s) ≡ countOf (wordAt (l .shapes) s) + 1
-            unfolding drawn
-            made-count = split-count (drawn l kind) s a t there seg small
+          after-is : shifted from to ≡ first + next (size + 1) (a + 1)
+          unfolding shifted segmentStart segmentEnd
+          after-is =
+              ⊎-elim
+              (λ (h : a + 1 < size). rw (next-in size a h, next-in (size + 1) (a + 1) (omega arith), lt-leb (first + (a + 1)) (first + a) (omega arith)) (omega arith))
+              (λ (h : (round ≡ true) × (a + 1 ≡ size)). let e = h .1 in rw (next-round size a (omega arith), next-round (size + 1) (a + 1) (omega arith), le-leb (first + 0) (first + a) (omega arith)))
+              (segment-cases size round a seg)
 
-            made-closed : closedOf (wordAt (splitShapes (l .shapes) s) s) ≡ closedOf (wordAt (l .shapes) s)
-            unfolding drawn
-            made-closed = split-closed (drawn l kind) s a t there seg small
+          abbrev after : ℕ
+          after = next (size + 1) (a + 1)
 
-            made-anchor : (k : ℕ) → k < m + 1 → anchorAt ps k ≡ splitAnchors (anchorAt (l .anchors)) from to t k
-            made-anchor k i = anchor-is ps k _ (λ q b. anchors-are (k * 6 + q) (omega arith) ∙ anchor-number (splitAnchors (anchorAt (l .anchors)) from to t) k q b)
+          after-other : next (size + 1) (a + 1) ≡ a → ⊥
+          after-other e =
+              ⊎-elim
+              (λ (h : a + 1 < size). let x = next-in (size + 1) (a + 1) (omega arith) in omega arith)
+              (λ (h : (round ≡ true) × (a + 1 ≡ size)). let y = h .1 in let x = next-round (size + 1) (a + 1) (omega arith) in placed .other (let z = next-round size a (omega arith) in omega arith))
+              (segment-cases size round a seg)
 
-            like : Like (viewIn (splitAt (drawn l kind) s a t) s) v
-            unfolding splitAt drawn
-            like =
-                let p = total-in (splitShapes (l .shapes) s) s made-there in
-                let n = made-total in
-                given-like (splitAt (drawn l kind) s a t) s ps rs way (record {
-                  known = r .kind-is;
-                  anchor = λ j i. made-anchor (start (splitShapes (l .shapes) s) s + j) (omega arith);
-                  radius = λ j i. radii-are (start (splitShapes (l .shapes) s) s + j) (omega arith);
-                })
+          after-next : next (size + 1) (a + 1) ≡ a + 1 → ⊥
+          after-next e =
+              ⊎-elim
+              (λ (h : a + 1 < size). let x = next-in (size + 1) (a + 1) (omega arith) in omega arith)
+              (λ (h : (round ≡ true) × (a + 1 ≡ size)). let y = h .1 in let x = next-round (size + 1) (a + 1) (omega arith) in omega arith)
+              (segment-cases size round a seg)
 
-            recuts : (k : ℕ) → editOf (drawn l kind) (split s a t) .recuts k ≡ reached (viewIn (splitAt (drawn l kind) s a t) s) (start (splitShapes (l .shapes) s) s) 4 (a + 1) k
-            unfolding editOf drawn
-            recuts k = ap (λ f. reached (viewIn (splitAt (drawn l kind) s a t) s) f 4 (a + 1) k) (sym made-start)
+          abbrev v : View
+          v = viewIn (splitAt (drawn l kind) s a t) s
 
+          view-anchor : (k : ℕ) → viewIn (splitAt (drawn l kind) s a t) s .anchor k ≡ splitAnchors (anchorAt (l .anchors)) from to t (first + k)
+          unfolding viewIn viewOf splitAt drawn subAt
+          view-anchor k = ap (λ z. splitAnchors (anchorAt (l .anchors)) from to t (z + k)) made-start
+
+          view-radius : (k : ℕ) → viewIn (splitAt (drawn l kind) s a t) s .radius k ≡ splitRadii (entry (l .radii)) from (first + k)
+          unfolding viewIn viewOf splitAt drawn subAt
+          view-radius k = ap (λ z. splitRadii (entry (l .radii)) from (z + k)) made-start
+
+          from-is : from ≡ first + a
+          unfolding segmentStart
+          from-is = refl
+
+          pub halving : Halving (viewIn (splitAt (drawn l kind) s a t) s) way (subAt (l .shapes) s) a
+              (halves (anchorAt (l .anchors) (segmentStart (l .shapes) s a)) (anchorAt (l .anchors) (segmentEnd (l .shapes) s a)) t) (l .anchors) (l .radii)
+          unfolding viewIn viewOf splitAt drawn subAt
+          halving =
+              let f = anchorAt (l .anchors) in
+              let e = from-is in
+              let d = after-is in
+              record {
+                size = made-count;
+                closed = made-closed;
+                chords = refl;
+                left = view-anchor a ∙ ap (splitAnchors f from to t) (sym from-is) ∙ split-left f from to t;
+                middle = view-anchor (a + 1) ∙ ap (splitAnchors f from to t) (omega arith) ∙ split-middle f from to t;
+                right = view-anchor after ∙ ap (splitAnchors f from to t) (sym after-is) ∙ split-right f from to t (λ x. after-other (omega arith)) (λ x. after-next (omega arith));
+                stood = λ k b x y z. view-anchor k ∙ anchor-stood f from to t (first + k) (λ q. x (omega arith)) (λ q. y (omega arith)) (λ q. z (omega arith)) ∙ ap f (ap (λ q. old q (first + k)) from-is ∙ old-in first a k);
+                zero = view-radius (a + 1) ∙ ap (splitRadii (entry (l .radii)) from) (omega arith) ∙ split-zero (entry (l .radii)) from;
+                kept = λ k b y. view-radius k ∙ radius-stood (entry (l .radii)) from (first + k) (λ q. y (omega arith)) ∙ ap (entry (l .radii)) (ap (λ q. old q (first + k)) from-is ∙ old-in first a k);
+                kinds = λ k. sym (r .kind-is);
+              }
+
+          recuts : (k : ℕ) → editOf (drawn l kind) (split s a t) .recuts k ≡ reached (viewIn (splitAt (drawn l kind) s a t) s) (start (splitShapes (l .shapes) s) s) 4 (a + 1) k
+          unfolding editOf drawn
+          recuts k = ap (λ f. reached (viewIn (splitAt (drawn l kind) s a t) s) f 4 (a + 1) k) (sym made-start)
+
+          abbrev win : Window
+          win = record { at = a + 1; reach = 4 }
+
+          module _ (p : Plan) where
             -- ---- 9, of the places recut
-            recut-bad : (k : ℕ) → recutFound ps rs way (subAt (splitShapes (l .shapes) s) s) (record { at = a + 1; reach = 4 }) ≡ At k → Left (Refused 9 k) l
+            pub split-recut-bad : (p .number ≡ 9) × (placesFound (viewIn (splitAt (drawn l kind) s a t) s) (grown (subAt (l .shapes) s)) (record { at = a + 1; reach = 4 }) ≡ At (p .place))
+                → editVerdict l kind (editOf (drawn l kind) (split s a t)) ≡ refused (p .number) (p .place)
             unfolding editOf splitAt drawn
-            recut-bad k f =
-                unchanged 9 k
-                (out-recut l kind edit (r .fits) (r .good-places) (r .arguments) has few-made written k (near-bad edit (splitShapes (l .shapes) s) refl way s (a + 1) 4 made-there recuts ps rs like k f))
+            split-recut-bad h =
+                out-recut l kind edit (r .fits) (r .good-places) (r .arguments) has few-made written (p .place)
+                (found-bad edit s (a + 1) 4 made-there recuts (p .place) (ap (λ z. placesFound v z win) sub-made ∙ h .1))
+                ∙ ap (λ z. refused z (p .place)) (sym (h .0))
 
-            module _ (none : recutFound ps rs way (subAt (splitShapes (l .shapes) s) s) (record { at = a + 1; reach = 4 }) ≡ Nothing) where
+            module _ (acc : Accepts (viewIn (splitAt (drawn l kind) s a t) s) (grown (subAt (l .shapes) s)) (record { at = a + 1; reach = 4 }) p) where
               recut : GoodBelow (recutGood (editOf (drawn l kind) (split s a t))) (total (splitShapes (l .shapes) s))
               unfolding editOf splitAt drawn
-              recut = near-good edit (splitShapes (l .shapes) s) refl way s (a + 1) 4 made-there recuts ps rs like none
+              recut = found-good edit s (a + 1) 4 made-there recuts (ap (λ z. placesFound v z win) sub-made ∙ acc .none)
 
               -- ---- 8
-              short : longFor (lengthsOf l) (m + 1) ≡ false → Left (Refused 8 0) l
+              pub split-short : longFor (lengthsOf l) (m + 1) ≡ false → editVerdict l kind (editOf (drawn l kind) (split s a t)) ≡ refused 8 0
               unfolding editOf splitAt drawn
-              short f = unchanged 8 0 (out-room l kind edit (r .fits) (r .good-places) (r .arguments) has few-made written recut (rw made-total (room-same l (m + 1) ∙ f)))
+              split-short f = out-room l kind edit (r .fits) (r .good-places) (r .arguments) has few-made written recut (rw made-total (room-same l (m + 1) ∙ f))
 
               -- ---- accepted
-              module _ (fits : longFor (lengthsOf l) (m + 1) ≡ true) where
+              module _ (whole : p .total ≡ m + 1) (fits : longFor (lengthsOf l) (m + 1) ≡ true) where
                 accepts : editVerdict l kind (editOf (drawn l kind) (split s a t)) ≡ accepted
                 unfolding editOf splitAt drawn
                 accepts = out-pass l kind edit (r .fits) (r .good-places) (r .arguments) has few-made written recut (rw made-total (room-same l (m + 1) ∙ fits))
 
-                long : Long (lengthsOf l) (m + 1)
-                long = long-says (lengthsOf l) (m + 1) fits
-
-                answer : Accepted (nearCount 4 (sub .n) (sub .closed) (a + 1)) (m + 1) ≡ callAnswer l kind (split s a t)
+                answer : Accepted (p .count) (p .total) ≡ callAnswer l kind (split s a t)
                 unfolding recutCount editOf splitAt drawn subAt
-                answer = rw (made-count, made-closed, sym made-total) (accepted-answer l kind (split s a t) accepts (r .few) has)
+                answer = cc (acc .count, whole, made-total) ∙ accepted-answer l kind (split s a t) accepts (r .few) has
 
-                abbrev lists : Lent
-                lists = callLists l kind (split s a t)
+                index : a + 1 < subAt (splitShapes (l .shapes) s) s .n
+                unfolding subAt
+                index = omega (arith, made-count, placed .inside)
 
-                left-shapes : splitShapes (l .shapes) s ≡ callLists l kind (split s a t) .shapes
-                unfolding splitShapes
-                left-shapes = split-shapes-left l kind s a t there seg small ∙ ap (λ x. x .shapes) (accepted-lists l kind (split s a t) accepts)
-
-                left-anchors : overwrite ((m + 1) * 6) (anchorNumbers (splitAnchors (anchorAt (l .anchors)) (segmentStart (l .shapes) s a) (segmentEnd (l .shapes) s a) t)) (l .anchors)
-                    ≡ callLists l kind (split s a t) .anchors
-                left-anchors =
-                    ap (λ q. overwrite (q * 6) (anchorNumbers (splitAnchors (anchorAt (l .anchors)) from to t)) (l .anchors)) (sym made-total)
-                    ∙ split-anchors-left l kind s a t there seg small
-                    ∙ ap (λ x. x .anchors) (accepted-lists l kind (split s a t) accepts)
-
-                left-radii : overwrite (m + 1) (splitRadii (entry (l .radii)) (segmentStart (l .shapes) s a)) (l .radii) ≡ callLists l kind (split s a t) .radii
-                left-radii =
-                    ap (λ q. overwrite q (splitRadii (entry (l .radii)) from) (l .radii)) (sym made-total)
-                    ∙ split-radii-left l kind s a t there seg small
-                    ∙ ap (λ x. x .radii) (accepted-lists l kind (split s a t) accepts)
-
-                abbrev at : ℕ
-                at = start (l .shapes) s + a
-
-                at-in : start (l .shapes) s + a < m
-                at-in = omega (arith, placed .inside, placed .path)
-
-                left-numbers : recutNumbers v (sub .first) 4 (a + 1) (gapped (l .numbers) (start (l .shapes) s + a) m 12) ≡ callLists l kind (split s a t) .numbers
-                unfolding subAt lengthsOf
-                left-numbers =
-                    let n = made-total in
-                    let b = long .numbers in
-                    ap (λ f. recutNumbers v f 4 (a + 1) (gapped (l .numbers) at m 12)) made-start
-                    ∙ split-numbers-left l kind s a t there seg small v like (gapped (l .numbers) at m 12) (omega arith) (length-gap (l .numbers) at m 12)
-                    (λ j i. let e : j ≡ j / 12 * 12 + j % 12 = omega arith in
-                    ap (entry (gapped (l .numbers) at m 12)) e ∙ gap-stood (l .numbers) at m 12 at-in (omega arith) (j / 12) (j % 12) (omega arith) (omega arith))
-                    (λ j i. gap-past (l .numbers) at m 12 j (omega arith))
-                    ∙ ap (λ x. x .numbers) (accepted-lists l kind (split s a t) accepts)
-
-                left-flags : recutFlags v (sub .first) 4 (a + 1) (shiftedFlags (l .flags) (start (l .shapes) s + a) m) ≡ callLists l kind (split s a t) .flags
-                unfolding subAt lengthsOf
-                left-flags =
-                    let n = made-total in
-                    let b = long .flags in
-                    ap (λ f. recutFlags v f 4 (a + 1) (shiftedFlags (l .flags) at m)) made-start
-                    ∙ split-flags-left l kind s a t there seg small v like (shiftedFlags (l .flags) at m) (omega arith) (length-shifted (l .flags) at m)
-                    (λ k i. flags-stood (l .flags) at m k (omega arith) (omega arith))
-                    (λ k i. flags-past (l .flags) at m k (omega arith))
-                    ∙ ap (λ x. x .flags) (accepted-lists l kind (split s a t) accepts)
-
-            -- ---- as the code leaves it
-            module _ (here more : Sub) (is-sub : here ≡ subAt (l .shapes) s) (is-more : more ≡ grown here)
-                (done : Recut) (told : done ≡ recutAnswerOf ps rs way more (record { at = a + 1; reach = 4 })) where
-              more-is : more ≡ subAt (splitShapes (l .shapes) s) s
-              unfolding subAt
-              more-is = is-more ∙ rw (is-sub, made-start, made-count, made-closed)
-
-              told-here : done ≡ recutAnswerOf ps rs way (subAt (splitShapes (l .shapes) s) s) (record { at = a + 1; reach = 4 })
-              told-here = told ∙ ap (λ x. recutAnswerOf ps rs way x win) more-is
-
-              pub split-recut-bad : (k : ℕ) → done ≡ Bad k → Left (Refused 9 k) l
-              split-recut-bad k b = recut-bad k (told-bad ps rs way sub win k (sym told-here ∙ b))
-
-              module _ (count : ℕ) (b : done ≡ Count count) where
-                none : (recutFound ps rs way (subAt (splitShapes (l .shapes) s) s) (record { at = a + 1; reach = 4 }) ≡ Nothing) × (count ≡ nearCount 4 (sub .n) (sub .closed) (a + 1))
-                none = told-count ps rs way sub win count (sym told-here ∙ b)
-
-                pub split-short : longFor (lengthsOf l) (m + 1) ≡ false → Left (Refused 8 0) l
-                split-short f = short (none .0) f
-
-                -- with the drawing written, and the places recut over the cache shifted
-                pub split-accepted : longFor (lengthsOf l) (m + 1) ≡ true → (now : Lent) → now .shapes ≡ splitShapes (l .shapes) s
-                    → now .anchors ≡ overwrite ((m + 1) * 6) (anchorNumbers (splitAnchors (anchorAt (l .anchors)) (segmentStart (l .shapes) s a) (segmentEnd (l .shapes) s a) t)) (l .anchors)
-                    → now .radii ≡ overwrite (m + 1) (splitRadii (entry (l .radii)) (segmentStart (l .shapes) s a)) (l .radii)
-                    → now .numbers ≡ recutNumbersLeft ps rs way more (record { at = a + 1; reach = 4 }) (gapped (l .numbers) (segmentStart (l .shapes) s a) m 12)
-                    → now .flags ≡ recutFlagsLeft ps rs way more (record { at = a + 1; reach = 4 }) (shiftedFlags (l .flags) (segmentStart (l .shapes) s a) m)
-                    → Left (Accepted count (m + 1)) now
-                unfolding segmentStart
-                split-accepted fits now sh an ra nu fl =
-                    let f = none .0 in
-                    let xs = gapped (l .numbers) (start (l .shapes) s + a) m 12 in
-                    let fs = shiftedFlags (l .flags) (start (l .shapes) s + a) m in (
-                      rw (none .1) (answer f fits),
-                      sh ∙ left-shapes f fits,
-                      an ∙ left-anchors f fits,
-                      ra ∙ left-radii f fits,
-                      nu ∙ ap (λ q. recutNumbersLeft ps rs way q win xs) more-is ∙ numbers-recut ps rs way sub win f xs ∙ left-numbers f fits,
-                      fl ∙ ap (λ q. recutFlagsLeft ps rs way q win fs) more-is ∙ flags-recut ps rs way sub win f fs ∙ left-flags f fits,
-                    )
-
-                -- the places recut in scratch lists for the whole drawing
-                module _ (ns₀ ns : List Float) (ns-long : m * 12 + 12 ≤ length ns₀) (cut : ns ≡ recutNumbersLeft ps rs way more (record { at = a + 1; reach = 4 }) ns₀)
-                    (fs₀ fs : List ℕ) (fs-long : m + 1 ≤ length fs₀) (marked : fs ≡ recutFlagsLeft ps rs way more (record { at = a + 1; reach = 4 }) fs₀) where
-                  more-in : more .first + more .n ≤ m + 1
-                  unfolding subAt
-                  more-in = rw more-is (omega (arith, made-total, total-in (splitShapes (l .shapes) s) s made-there))
-
-                  ends : (xs : List Float) (gs : List ℕ) → (nearNumbers more win ns xs ≡ recutNumbersLeft ps rs way more win xs) × (nearFlags more win fs gs ≡ recutFlagsLeft ps rs way more win gs)
-                  ends xs gs =
-                      let i = more-in in
-                      let f = told-count ps rs way more win count (sym told ∙ b) .0 in
-                      let z = all-ends ps rs way more win f ns₀ ns (omega arith) (cut ∙ numbers-recut ps rs way more win f ns₀) fs₀ fs (omega arith) (marked ∙ flags-recut ps rs way more win f fs₀) xs gs in
-                      (z .1, z .2)
-
-                  pub split-done : longFor (lengthsOf l) (m + 1) ≡ true → (to : ℕ) → to ≡ next (here .n) a → (now : Lent) → now .shapes ≡ splitShapes (l .shapes) s
-                      → now .anchors ≡ overwrite ((m + 1) * 6) (anchorNumbers (splitAnchors (anchorAt (l .anchors)) (here .first + a) (here .first + to) t)) (l .anchors)
-                      → now .radii ≡ overwrite (m + 1) (splitRadii (entry (l .radii)) (here .first + a)) (l .radii)
-                      → now .numbers ≡ nearNumbers more (record { at = a + 1; reach = 4 }) ns (gapped (l .numbers) (here .first + a) m 12)
-                      → now .flags ≡ nearFlags more (record { at = a + 1; reach = 4 }) fs (shiftedFlags (l .flags) (here .first + a) m) → Left (Accepted count (m + 1)) now
-                  split-done fits to is-to now sh an ra nu fl =
-                      let e = start-is (l .shapes) s a here is-sub in
-                      let g = ends (gapped (l .numbers) (here .first + a) m 12) (shiftedFlags (l .flags) (here .first + a) m) in
-                      split-accepted fits now sh
-                      (an ∙ ap (λ q. overwrite ((m + 1) * 6) (anchorNumbers (splitAnchors (anchorAt (l .anchors)) q (here .first + to) t)) (l .anchors)) e
-                      ∙ ap (λ q. overwrite ((m + 1) * 6) (anchorNumbers (splitAnchors (anchorAt (l .anchors)) (segmentStart (l .shapes) s a) q t)) (l .anchors)) (end-is (l .shapes) s a here is-sub to is-to))
-                      (ra ∙ ap (λ q. overwrite (m + 1) (splitRadii (entry (l .radii)) q) (l .radii)) e)
-                      (nu ∙ g .0 ∙ ap (λ q. recutNumbersLeft ps rs way more win (gapped (l .numbers) q m 12)) e)
-                      (fl ∙ g .1 ∙ ap (λ q. recutFlagsLeft ps rs way more win (shiftedFlags (l .flags) q m)) e)
+                pub split-granted : Granted l kind s a t p
+                unfolding editOf splitAt drawn lengthsOf
+                split-granted = record {
+                  allowed = record {
+                    verdict = accepts;
+                    answer = answer;
+                    stands = record {
+                      there = there;
+                      words = r .words;
+                      few = r .few;
+                      path = total-in (l .shapes) s there;
+                      anchors = r .long .anchors;
+                      radii = r .long .radii;
+                      numbers = r .long .numbers;
+                      flags = r .long .flags;
+                    };
+                    index = index;
+                    places = rw sub-made acc;
+                  };
+                  segment = has;
+                  count = whole ∙ ap (λ z. z + 1) (r .count);
+                  few = omega (arith, r .count, few);
+                  room = ap (λ z. longFor (lengthsOf l) (z + 1)) (sym (r .count)) ∙ fits;
+                }

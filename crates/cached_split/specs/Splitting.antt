@@ -1,7 +1,7 @@
 -- A split of a drawing in its lists, step by step: what it rests on once 7, 5, 6 and 10 are passed, and what its parts leave. Assumes nothing.
 use Prim.Native.Nat.{ℕ, _+_, _<_}
 use mathlib.Core.Path.{_≡_}
-use mathlib.Core.Bool.{true, false}
+use mathlib.Core.Bool.{true}
 use mathlib.Core.List.{List}
 use lib.ListN.{getD}
 use lib.Ieee.{Float}
@@ -12,7 +12,6 @@ use Rattle.path.specs.declared.limit.Found.{Found}
 use Rattle.path.specs.Limit.{firstBad}
 use Rattle.corner.specs.declared.cut.CornerKind.{CornerKind}
 use Rattle.cut.specs.declared.subpath.Sub.{Sub}
-use Rattle.cut.specs.declared.subpath.Window.{Window}
 use Rattle.cut.specs.Near.{old}
 use Rattle.edit.specs.Split.{halves, shifted, putsWithin, hasSegment}
 use Rattle.session.specs.Drawing.{Lent}
@@ -28,13 +27,6 @@ pub record Begun (l : Lent) (kind s a : ℕ) (t : Float) (n : ℕ) (way : Corner
 -- a subpath with one anchor more
 abbrev pub grown : Sub → Sub
 grown sub = record { first = sub .first; n = sub .n + 1; closed = sub .closed }
-
--- the 15 anchors that a split in the middle of a subpath turns on, as an open subpath of their own lists, and the window in it
-abbrev pub rowOf : Sub
-rowOf = record { first = 0; n = 15; closed = false }
-
-abbrev pub rowAbout : Window
-rowAbout = record { at = 7; reach = 4 }
 
 -- the first of n places whose anchor, put there by a split between a and b, breaks the limit
 unfoldable pub putsFound : (ℕ → Anchor) → ℕ → ℕ → Float → ℕ → Found

@@ -1,6 +1,6 @@
 // The cached edit that splits a segment, on a lent drawing and its lent cut cache, in place.
 mod making;
-mod rows;
+mod planning;
 mod splits;
 mod writing;
 

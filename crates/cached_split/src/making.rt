@@ -1,4 +1,4 @@
-// The drawing that a split makes: its anchors and radii put in a list in place, or copied to a scratch list first.
+// The drawing that a split makes: its anchors and radii put in place.
 ghost use mathlib.Core.Path.{_≡_};
 ghost use Prim.Native.Nat.{ℕ, _+_, _*_, _≤_, _<_};
 ghost use lib.ListN.{length};
@@ -12,7 +12,7 @@ use edit::Halved;
 use path::Found;
 
 // The ends of the segment from place a to place b, and the anchor between them.
-fn halved(anchors: &[f64], a: usize, b: usize, t: f64) -> Halved
+pub fn halved(anchors: &[f64], a: usize, b: usize, t: f64) -> Halved
     requires { ⌜ (a * 6 + 6 ≤ length (now anchors)) × (b * 6 + 6 ≤ length (now anchors)) ⌝ }
     ensures { λ r. ⌜ r ≡ halves (anchorAt (now (anchors .entry)) a) (anchorAt (now (anchors .entry)) b) t ⌝ }
 {
@@ -37,15 +37,6 @@ pub fn put_anchors(anchors: &mut [f64], n: usize, a: usize, b: usize, t: f64)
     edit::put_halves(anchors, n, a, b, h);
 }
 
-// The same of a copy.
-pub fn make_anchors(anchors: &[f64], n: usize, a: usize, b: usize, t: f64, made: &mut [f64])
-    requires { ⌜ (n < 512) × (a < n) × (b < n) × (a ≡ b → ⊥) × (n * 6 ≤ length (now anchors)) × (n * 6 + 6 ≤ length (now made)) ⌝ }
-    ensures { λ _. ⌜ now (made .exit) ≡ overwrite ((n + 1) * 6) (anchorNumbers (splitAnchors (anchorAt (now (anchors .entry))) a b t)) (now (made .entry)) ⌝ }
-{
-    views::copy(anchors, n * 6, made);
-    put_anchors(made, n, a, b, t);
-}
-
 // Puts radius 0 at the place after a of n radii.
 pub fn put_radius(radii: &mut [f64], n: usize, a: usize)
     requires { ⌜ (n < 512) × (a < n) × (n + 1 ≤ length (now radii)) ⌝ }
@@ -53,15 +44,6 @@ pub fn put_radius(radii: &mut [f64], n: usize, a: usize)
 {
     edit::shift_up(radii, a, n, 1);
     radii[a + 1] = 0.0;
-}
-
-// The same of a copy.
-pub fn make_radii(radii: &[f64], n: usize, a: usize, made: &mut [f64])
-    requires { ⌜ (n < 512) × (a < n) × (n ≤ length (now radii)) × (n + 1 ≤ length (now made)) ⌝ }
-    ensures { λ _. ⌜ now (made .exit) ≡ overwrite (n + 1) (splitRadii (entry (now (radii .entry))) a) (now (made .entry)) ⌝ }
-{
-    views::copy(radii, n, made);
-    put_radius(made, n, a);
 }
 
 // The subpath with one anchor more.

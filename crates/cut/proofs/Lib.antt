@@ -4,6 +4,8 @@ pub mod Stages
 pub mod Whole
 pub mod Follow
 pub mod Locality
-pub mod RowLocality
+pub mod Unrolled
+pub mod Tapes
+pub mod Undo
 pub mod Edits
 pub mod Outlines

@@ -10,7 +10,7 @@ use Rattle.views.proofs.Laws.{order}
 use Rattle.cut.specs.View.{View, arrives, leaves}
 use Rattle.path.specs.Shape.{prev, next}
 use Rattle.cut.specs.Places.{placeAt}
-use Rattle.cut.specs.Near.{gap, near, old}
+use Rattle.cut.specs.Near.{gap, near, old, shifted}
 use Rattle.views.proofs.Bools.{not-both}
 use Rattle.cut.proofs.Steps.{next-in, next-round, near-cases, near-in, near-round}
 use Rattle.cut.proofs.Follow.{In, follows}
@@ -91,6 +91,21 @@ old-low a j h = rw (le-leb j a h)
 pub old-high : (a j : ℕ) → a < j → old a j ≡ j - 1
 unfolding old
 old-high a j h = rw (lt-leb j a h)
+
+pub shifted-low : (a j : ℕ) → j ≤ a → shifted a j ≡ j
+unfolding shifted
+shifted-low a j h = rw (le-leb j a h)
+
+pub shifted-high : (a j : ℕ) → a < j → shifted a j ≡ j + 1
+unfolding shifted
+shifted-high a j h = rw (lt-leb j a h)
+
+pub old-shifted : (a j : ℕ) → old a (shifted a j) ≡ j
+old-shifted a j =
+    ⊎-elim
+    (λ (l : j ≤ a). rw (shifted-low a j l) (old-low a j l))
+    (λ (l : a < j). rw (shifted-high a j l) (old-high a (j + 1) (omega arith) ∙ omega arith))
+    (order j a)
 
 -- ---- away from the new anchor, neighbours and ends are as before
 module _ (n a j : ℕ) (c : Bool) (from : a < n) (inside : j < n + 1) (f : Far 1 (n + 1) c (a + 1) j) where

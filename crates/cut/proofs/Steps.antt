@@ -4,12 +4,23 @@ use mathlib.Core.Logic.{_⊎_, inl, inr, ⊎-elim}
 use mathlib.Core.Bool.{Bool, true, false, _&&_, _||_, or-false, cond}
 use Prim.Native.Nat.{ℕ, zero, suc, _+_, _-_, _≤_, _<_}
 use native.Mathlib.Omega.{arith}
-use lib.Dec.{leb, ltb}
-use borrow.Author.Tests.{leb-true, le-leb, lt-ltb, le-ltb}
+use lib.Dec.{leb, ltb, eqb}
+use borrow.Author.Tests.{leb-true, ltb-true, eqb-true, le-leb, lt-ltb, le-ltb}
 use Rattle.views.proofs.Laws.{order}
-use Rattle.views.proofs.Bools.{both, or-cases, or-left, or-right, not-both}
-use Rattle.path.specs.Shape.{prev, next}
+use Rattle.views.proofs.Bools.{both, and-left, and-right, or-cases, or-left, or-right, not-both}
+use Rattle.path.specs.Shape.{prev, next, isSegment}
 use Rattle.cut.specs.Near.{gap, near, around, spanOf}
+
+-- ---- tests
+
+pub refuted : (b : Bool) → (b ≡ true → ⊥) → b ≡ false
+refuted true h = absurd (h refl)
+refuted false h = refl
+
+pub same-test : (p q : Bool) → (p ≡ true → q ≡ true) → (q ≡ true → p ≡ true) → p ≡ q
+same-test true q f g = sym (f refl)
+same-test false true f g = g refl
+same-test false false f g = refl
 
 -- ---- the neighbours
 
@@ -20,6 +31,11 @@ next-in n j h = rw (lt-ltb (j + 1) n h)
 pub next-round : (n j : ℕ) → n ≤ j + 1 → next n j ≡ 0
 unfolding next
 next-round n j h = rw (le-ltb (j + 1) n h)
+
+pub prev-in : (n j : ℕ) → 0 < j → prev n j ≡ j - 1
+unfolding prev
+prev-in n zero h = absurd (omega arith)
+prev-in n (suc j) h = omega arith
 
 pub prev-lt : (n j : ℕ) → j < n → prev n j < n
 unfolding prev
@@ -34,6 +50,15 @@ unfolding prev
 next-prev n zero h = next-round n (n - 1) (omega arith)
 next-prev n (suc j) h = let l : j + 1 < n = omega arith in next-in n j l ∙ omega arith
 
+-- ---- the segments of a subpath
+pub segment-cases : (n : ℕ) (c : Bool) (a : ℕ) → isSegment n c a ≡ true → (a + 1 < n) ⊎ ((c ≡ true) × (a + 1 ≡ n))
+unfolding isSegment
+segment-cases n c a = go (ltb (a + 1) n) refl (eqb (a + 1) n) refl
+  where
+    go : (p : Bool) → ltb (a + 1) n ≡ p → (q : Bool) → eqb (a + 1) n ≡ q → (p || c && (ltb 1 n && q)) ≡ true → (a + 1 < n) ⊎ ((c ≡ true) × (a + 1 ≡ n))
+    go true e q f h = inl (ltb-true (a + 1) n e)
+    go false e q f h = inr (and-left c (ltb 1 n && q) h, eqb-true (a + 1) n (f ∙ and-right (ltb 1 n) q (and-right c (ltb 1 n && q) h)))
+
 -- ---- near
 
 pub near-cases : (k n : ℕ) (c : Bool) (i j : ℕ) → near k n c i j ≡ true → (gap i j ≤ k) ⊎ ((c ≡ true) × (n ≤ gap i j + k))
@@ -42,6 +67,10 @@ near-cases k n c i j e =
     ⊎-elim (λ (a : leb (gap i j) k ≡ true). inl (leb-true (gap i j) k a))
     (λ (b : (c && leb n (gap i j + k)) ≡ true). let p = both c (leb n (gap i j + k)) b in inr (p .0, leb-true n (gap i j + k) (p .1)))
     (or-cases (leb (gap i j) k) (c && leb n (gap i j + k)) e)
+
+-- steps in an open subpath are differences
+pub near-open : (k n : ℕ) (c : Bool) (i j : ℕ) → c ≡ false → near k n c i j ≡ true → gap i j ≤ k
+near-open k n c i j o h = ⊎-elim (λ (l : gap i j ≤ k). l) (λ (l : (c ≡ true) × (n ≤ gap i j + k)). absurd (not-both c o (l .0))) (near-cases k n c i j h)
 
 pub near-in : (k n : ℕ) (c : Bool) (i j : ℕ) → gap i j ≤ k → near k n c i j ≡ true
 unfolding near
@@ -86,10 +115,6 @@ module _ (k n : ℕ) (c : Bool) (i j : ℕ) (l : j < n) where
   pub near-span : near k n c i j ≡ true → (spanOf k n c i .from ≤ j) × (j < spanOf k n c i .to)
   unfolding spanOf
   near-span = in-span (around k n c i) refl
-
-refuted : (b : Bool) → (b ≡ true → ⊥) → b ≡ false
-refuted true h = absurd (h refl)
-refuted false h = refl
 
 -- none is near before the span, nor after it
 pub before-span : (k n : ℕ) (c : Bool) (i j : ℕ) → j < n → j < spanOf k n c i .from → near k n c i j ≡ false

@@ -5,3 +5,5 @@ pub mod Places
 pub mod Outline
 pub mod Rows
 pub mod Recut
+pub mod Unrolled
+pub mod Tape

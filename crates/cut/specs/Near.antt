@@ -30,3 +30,7 @@ nearCount k n closed i = count (near k n closed i) n
 -- where an anchor is put in after a, the index that j had before
 unfoldable pub old : ℕ → ℕ → ℕ
 old a j = cond (leb j a) j (j - 1)
+
+-- and the index that j then has: those after a are one further on
+unfoldable pub shifted : ℕ → ℕ → ℕ
+shifted a j = cond (leb j a) j (j + 1)

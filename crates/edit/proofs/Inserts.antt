@@ -2,20 +2,18 @@
 -- other subpaths keep theirs, shifted by one after it. For the cache of cuts, whose locality rests on this. Assumes nothing.
 use mathlib.Core.Path.{_≡_, refl, sym, ap, _∙_}
 use mathlib.Core.Logic.{⊎-elim}
-use mathlib.Core.Bool.{Bool, true, false, cond, _&&_, _||_}
+use mathlib.Core.Bool.{Bool, true, false}
 use Prim.Native.Nat.{ℕ, _+_, _-_, _≤_, _<_}
 use native.Mathlib.Omega.{arith}
-use lib.Dec.{leb, eqb}
 use lib.Ieee.{Float}
-use borrow.Author.Tests.{eq-eqb, ne-eqb, le-leb, lt-leb, lt-ltb, le-ltb}
+use borrow.Author.Tests.{eq-eqb, ne-eqb, lt-ltb, le-ltb}
 use Rattle.views.proofs.Laws.{order, same}
 use Rattle.path.specs.declared.anchor.Anchor.{Anchor}
 use Rattle.path.specs.Shape.{isSegment, next}
 use Rattle.cut.specs.Near.{gap, near, old}
-use Rattle.cut.proofs.Locality.{far-of, old-low, old-high}
-use Rattle.edit.specs.Split.{halves, shifted, splitAnchors}
+use Rattle.cut.proofs.Locality.{far-of, old-low, old-high, shifted-low, shifted-high}
+use Rattle.edit.specs.Split.{shifted, splitAnchors}
 use Rattle.edit.proofs.Segments.{segment-says}
-use Rattle.edit.proofs.Splits.{shifted-low, shifted-high}
 
 module _ (f : ℕ → Anchor) (a b : ℕ) (t : Float) where
   -- an index that no anchor is put to

@@ -1,7 +1,7 @@
 -- A path that was made in place: what its last two tests come to, and a list that was written whole. Assumes nothing.
-use mathlib.Core.Path.{_≡_, refl, sym, ap, _∙_}
+use mathlib.Core.Path.{_≡_, refl, ap}
 use mathlib.Core.List.{List, [], _∷_}
-use Prim.Native.Nat.{ℕ, zero, suc, _*_, _≤_, _<_}
+use Prim.Native.Nat.{ℕ, _*_, _≤_, _<_}
 use native.Mathlib.Nat.{le-refl}
 use native.Mathlib.Omega.{arith}
 use lib.ListN.{length, getD}
@@ -10,7 +10,7 @@ use Rattle.views.specs.View.{overwrite}
 use Rattle.refusal.specs.Order.{passes, holds, judge, accepted, refused}
 use Rattle.path.specs.declared.anchor.Anchor.{Anchor}
 use Rattle.path.proofs.Limits.{GoodBelow, Least}
-use Rattle.call.specs.Tests.{places, outlineIn, outlineLimit, roomFor}
+use Rattle.call.specs.Tests.{outlineIn, outlineLimit}
 use Rattle.call.proofs.Openings.{places-fail, places-pass}
 use Rattle.call.proofs.Handings.{room, few-numbers}
 use Rattle.edit.specs.Split.{madeVerdict}

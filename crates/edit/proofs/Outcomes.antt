@@ -1,20 +1,20 @@
 -- What `split` comes to: one law for each of its answers. Assumes nothing.
-use mathlib.Core.Path.{_≡_, refl, sym, ap, _∙_}
+use mathlib.Core.Path.{_≡_, sym, _∙_}
 use mathlib.Core.Bool.{Bool, true, false}
 use mathlib.Core.List.{List}
 use Prim.Native.Nat.{ℕ, _+_, _*_, _≤_, _<_}
 use native.Mathlib.Omega.{arith}
 use lib.Dec.{ltb}
-use lib.ListN.{length, set, length-set}
+use lib.ListN.{length, length-set}
 use lib.Ieee.{Float}
 use borrow.Author.Tests.{lt-ltb, le-ltb}
 use Rattle.views.proofs.Bools.{and-false}
 use Rattle.real.specs.Limit.{inLimit}
-use Rattle.refusal.specs.Order.{passes, holds, judge, Verdict, accepted, refused}
+use Rattle.refusal.specs.Order.{passes, judge, refused}
 use Rattle.refusal.proofs.Verdicts.{holds-true, holds-false, in-order, by-arguments, by-reference, by-capacity}
 use Rattle.path.specs.declared.anchor.Anchor.{Anchor}
 use Rattle.path.specs.declared.limit.Found.the-variants.{At, Nothing}
-use Rattle.path.specs.Flat.{anchorAt, listed}
+use Rattle.path.specs.Flat.{anchorAt}
 use Rattle.path.specs.Shape.{countOf, closedOf, total, wordAt, start, isSegment, next}
 use Rattle.path.specs.Limit.{anchorIn, firstBad}
 use Rattle.path.proofs.Limits.{GoodBelow, Least, first-is, none-is, good-cong, least-cong}

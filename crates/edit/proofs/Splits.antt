@@ -5,23 +5,23 @@ use mathlib.Core.Bool.{Bool, true, false, cond}
 use mathlib.Core.List.{List}
 use Prim.Native.Nat.{ℕ, _+_, _-_, _*_, _/_, _%_, _≤_, _<_}
 use native.Mathlib.Omega.{arith}
-use lib.Dec.{leb, eqb}
+use lib.Dec.{eqb}
 use lib.ListN.{length}
 use lib.Ieee.{Float, nan}
 use borrow.Author.Tests.{eq-eqb, ne-eqb, le-leb, lt-leb}
-use Rattle.views.specs.View.{entry, tabulate}
+use Rattle.views.specs.View.{entry}
 use Rattle.views.proofs.Laws.{order, same, length-tabulate, at-tabulate, as-overwrite}
 use Rattle.geom.specs.Point.{point}
-use Rattle.path.specs.declared.anchor.Anchor.{Anchor}
 use Rattle.path.specs.declared.limit.Found.the-variants.{At, Nothing}
 use Rattle.path.specs.Anchor.{withoutHandles}
 use Rattle.path.specs.Flat.{anchorAt, numbers, anchorNumbers, putAnchor, nth, listed}
 use Rattle.path.specs.Limit.{anchorGood, anchorIn, firstBad}
-use Rattle.path.proofs.Limits.{GoodBelow, Least, first-is, none-is}
+use Rattle.path.proofs.Limits.{GoodBelow, first-is, none-is}
 use Rattle.path.proofs.Anchors.{anchor-good}
 use Rattle.path.proofs.Places.{anchor-number, numbers-at, length-put, put-in, put-out}
 use Rattle.call.specs.Tests.{outlineIn}
 use Rattle.cut.specs.Near.{old}
+use Rattle.cut.proofs.Locality.{shifted-low, shifted-high}
 use Rattle.edit.specs.declared.splitting.Halved.{Halved}
 use Rattle.edit.specs.Gap.{gapped}
 use Rattle.edit.specs.Split.{halves, shifted, splitAnchors, putsWithin, splitPlaces}
@@ -76,14 +76,6 @@ module _ (h : Halved) (a b : ℕ) (p : a ≡ b → ⊥) (q : a + 1 ≡ b → ⊥
     none-first l c r = sym (none-is (putsWithin h a b) n .1 (good-below n (λ m. l) (λ m. c) (λ m. r)))
 
 -- ---- indices
-pub shifted-low : (a j : ℕ) → j ≤ a → shifted a j ≡ j
-unfolding shifted
-shifted-low a j h = rw (le-leb j a h)
-
-pub shifted-high : (a j : ℕ) → a < j → shifted a j ≡ j + 1
-unfolding shifted
-shifted-high a j h = rw (lt-leb j a h)
-
 -- the end of a segment goes neither to its start nor to the new anchor's place
 pub record Apart (n a b : ℕ) : Type 0 where
   pub start : a ≡ shifted a b → ⊥

@@ -1,21 +1,20 @@
 -- Laws of `reversed`: what one more exchange of two anchors does, the list that they leave, and one law for each answer. Assumes nothing.
 use mathlib.Core.Path.{_≡_, refl, sym, ap, _∙_}
 use mathlib.Core.Logic.{_⊎_, inl, inr, ⊎-elim}
-use mathlib.Core.Bool.{Bool, true, _&&_}
+use mathlib.Core.Bool.{true}
 use mathlib.Core.List.{List}
 use Prim.Native.Nat.{ℕ, _+_, _-_, _*_, _/_, _%_, _≤_, _<_}
 use native.Mathlib.Omega.{arith}
-use lib.Dec.{leb, ltb}
+use lib.Dec.{leb}
 use lib.ListN.{length}
 use lib.Ieee.{Float, nan}
 use borrow.Author.Tests.{lt-ltb, le-ltb, le-leb, lt-leb}
 use Rattle.views.specs.View.{entry, tabulate}
 use Rattle.views.proofs.Bools.{and-false}
 use Rattle.views.proofs.Laws.{order, same, length-tabulate, at-tabulate, as-overwrite}
-use Rattle.refusal.specs.Order.{passes, holds, accepted, refused}
+use Rattle.refusal.specs.Order.{accepted, refused}
 use Rattle.refusal.proofs.Verdicts.{holds-true, holds-false, in-order, by-reference, by-none}
 use Rattle.geom.specs.Point.{point}
-use Rattle.path.specs.declared.anchor.Anchor.{Anchor}
 use Rattle.path.specs.Anchor.{withoutHandles}
 use Rattle.path.specs.Flat.{anchorAt, numbers, anchorNumbers, putAnchor, nth, listed}
 use Rattle.path.specs.Shape.{countOf, total, wordAt, start}

@@ -1,8 +1,8 @@
 -- `split`: a segment cut in two by de Casteljau's subdivision, the new anchor put at the index after the segment's start. Assumes nothing.
-use Prim.Native.Nat.{ℕ, _+_, _-_, _*_}
+use Prim.Native.Nat.{ℕ, _+_}
 use mathlib.Core.Bool.{Bool, true, _&&_, cond}
 use mathlib.Core.List.{List}
-use lib.Dec.{leb, ltb, eqb}
+use lib.Dec.{ltb, eqb}
 use lib.ListN.{length, set}
 use lib.Ieee.{Float}
 use Rattle.views.specs.View.{tabulate}
@@ -16,6 +16,7 @@ use Rattle.path.specs.Flat.{anchorAt}
 use Rattle.path.specs.Limit.{anchorGood}
 use Rattle.path.specs.Shape.{countOf, closedOf, total, wordAt, start, isSegment, next}
 use Rattle.cut.specs.Near.{old}
+unfoldable pub use Rattle.cut.specs.Near.{shifted}
 use Rattle.call.specs.declared.answers.Outline.{Outline}
 use Rattle.call.specs.Tests.{pathFits, pathLimit, outlineLimit, roomFor}
 use Rattle.call.specs.Answers.{outlineAnswer, listLeft, anchorsLeft}
@@ -31,10 +32,6 @@ halves a b t =
       middle = record { p = pt (h .before) 3; «h_in» = pt (h .before) 2; «h_out» = pt (h .after) 1 };
       right = record { p = b .p; «h_in» = pt (h .after) 2; «h_out» = b .«h_out» };
     }
-
--- the index that j then has: those after a are one further on
-unfoldable pub shifted : ℕ → ℕ → ℕ
-shifted a j = cond (leb j a) j (j + 1)
 
 -- the anchors f 0, f 1, .. once the segment from a to b is split: the new one stands at a + 1, whichever way b lies
 unfoldable pub splitAnchors : (ℕ → Anchor) → ℕ → ℕ → Float → ℕ → Anchor

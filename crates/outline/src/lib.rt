@@ -5,7 +5,7 @@ ghost use mathlib.Core.Path.{_≡_};
 ghost use Rattle.root.specs.Root.{rootOf};
 ghost use Rattle.geom.specs.Point.{point};
 ghost use Rattle.cubic_calls.specs.Calls.{lenAnswer, cubicAtAnswer, sampleAnswer, sampleLeft, splitAnswer, splitBefore, splitAfter, partAnswer, partLeft};
-ghost use Rattle.answers.specs.Answers.{curveOf, words, numberCode, numberWords, numberLeft, pointCode, pointWords, pointLeft, filledCode, filledWords};
+ghost use Rattle.answers.specs.Answers.{curveOf, numberCode, numberWords, numberLeft, pointCode, pointWords, pointLeft, filledCode, filledWords};
 use answers::filled_told;
 use answers::tell;
 use cubic_calls::Number;

@@ -3,15 +3,15 @@ ghost use mathlib.Core.Path.{_≡_};
 ghost use Prim.Native.Nat.{ℕ};
 ghost use Rattle.path.specs.Flat.{anchorAt};
 ghost use Rattle.session.specs.Edits.{move, setRadius, split};
-ghost use Rattle.session.specs.Calls.{callAnswer, callLists};
 ghost use Rattle.cached.specs.Opening.{lent};
 ghost use Rattle.replay.specs.declared.calls.Replayed.the-variants.{Done};
 ghost use Rattle.replay.specs.Encoding.{callsOf};
 ghost use Rattle.replay.specs.Replay.{replayAnswer, replayLists, replayAnswers};
 ghost use Rattle.replay.specs.Claim.{Claim};
-ghost use Rattle.answers.specs.Answers.{editedCode, editedWords, replayedCode, replayedWords};
+ghost use Rattle.answers.specs.Answers.{Tells, replayedCode, replayedWords};
 use answers::edited_told;
 use answers::replayed_told;
+use path::AnchorRef;
 
 // Six new numbers for anchor i of subpath s.
 #[no_mangle]
@@ -27,12 +27,12 @@ pub extern "C" fn outline_move_anchor(
     new: &[f64; 6],
     answer: &mut [u64; 4],
 ) -> u32
-    ensures code { λ r. ⌜ r ≡ editedCode (callAnswer (lent (now (shapes .entry)) (now (anchors .entry)) (now (radii .entry)) (now (numbers .entry)) (now (flags .entry))) kind (move s i (anchorAt (now (new .entry)) 0))) ⌝ }
-    ensures answer { λ _. ⌜ now (answer .exit) ≡ editedWords (callAnswer (lent (now (shapes .entry)) (now (anchors .entry)) (now (radii .entry)) (now (numbers .entry)) (now (flags .entry))) kind (move s i (anchorAt (now (new .entry)) 0))) ⌝ }
-    ensures anchors { λ _. ⌜ now (anchors .exit) ≡ callLists (lent (now (shapes .entry)) (now (anchors .entry)) (now (radii .entry)) (now (numbers .entry)) (now (flags .entry))) kind (move s i (anchorAt (now (new .entry)) 0)) .anchors ⌝ }
-    ensures numbers { λ _. ⌜ now (numbers .exit) ≡ callLists (lent (now (shapes .entry)) (now (anchors .entry)) (now (radii .entry)) (now (numbers .entry)) (now (flags .entry))) kind (move s i (anchorAt (now (new .entry)) 0)) .numbers ⌝ }
-    ensures flags { λ _. ⌜ now (flags .exit) ≡ callLists (lent (now (shapes .entry)) (now (anchors .entry)) (now (radii .entry)) (now (numbers .entry)) (now (flags .entry))) kind (move s i (anchorAt (now (new .entry)) 0)) .flags ⌝ }
+    ensures { λ r. ⌜ Tells (lent (now (shapes .entry)) (now (anchors .entry)) (now (radii .entry)) (now (numbers .entry)) (now (flags .entry))) kind (move s i (anchorAt (now (new .entry)) 0)) r (now (answer .exit)) (lent (now (shapes .entry)) (now (anchors .exit)) (now (radii .entry)) (now (numbers .exit)) (now (flags .exit))) ⌝ }
 {
+    let at = AnchorRef {
+        subpath: s,
+        anchor: i,
+    };
     let a = cached::move_anchor(
         shapes,
         anchors,
@@ -40,8 +40,7 @@ pub extern "C" fn outline_move_anchor(
         kind,
         numbers,
         flags,
-        s,
-        i,
+        at,
         path::anchor_at(new, 0),
     );
     edited_told(a, answer)
@@ -61,13 +60,13 @@ pub extern "C" fn outline_set_radius(
     radius: f64,
     answer: &mut [u64; 4],
 ) -> u32
-    ensures code { λ r. ⌜ r ≡ editedCode (callAnswer (lent (now (shapes .entry)) (now (anchors .entry)) (now (radii .entry)) (now (numbers .entry)) (now (flags .entry))) kind (setRadius s i radius)) ⌝ }
-    ensures answer { λ _. ⌜ now (answer .exit) ≡ editedWords (callAnswer (lent (now (shapes .entry)) (now (anchors .entry)) (now (radii .entry)) (now (numbers .entry)) (now (flags .entry))) kind (setRadius s i radius)) ⌝ }
-    ensures radii { λ _. ⌜ now (radii .exit) ≡ callLists (lent (now (shapes .entry)) (now (anchors .entry)) (now (radii .entry)) (now (numbers .entry)) (now (flags .entry))) kind (setRadius s i radius) .radii ⌝ }
-    ensures numbers { λ _. ⌜ now (numbers .exit) ≡ callLists (lent (now (shapes .entry)) (now (anchors .entry)) (now (radii .entry)) (now (numbers .entry)) (now (flags .entry))) kind (setRadius s i radius) .numbers ⌝ }
-    ensures flags { λ _. ⌜ now (flags .exit) ≡ callLists (lent (now (shapes .entry)) (now (anchors .entry)) (now (radii .entry)) (now (numbers .entry)) (now (flags .entry))) kind (setRadius s i radius) .flags ⌝ }
+    ensures { λ r. ⌜ Tells (lent (now (shapes .entry)) (now (anchors .entry)) (now (radii .entry)) (now (numbers .entry)) (now (flags .entry))) kind (setRadius s i radius) r (now (answer .exit)) (lent (now (shapes .entry)) (now (anchors .entry)) (now (radii .exit)) (now (numbers .exit)) (now (flags .exit))) ⌝ }
 {
-    let a = cached::set_radius(shapes, anchors, radii, kind, numbers, flags, s, i, radius);
+    let at = AnchorRef {
+        subpath: s,
+        anchor: i,
+    };
+    let a = cached::set_radius(shapes, anchors, radii, kind, numbers, flags, at, radius);
     edited_told(a, answer)
 }
 
@@ -85,15 +84,13 @@ pub extern "C" fn outline_split_segment(
     t: f64,
     answer: &mut [u64; 4],
 ) -> u32
-    ensures code { λ r. ⌜ r ≡ editedCode (callAnswer (lent (now (shapes .entry)) (now (anchors .entry)) (now (radii .entry)) (now (numbers .entry)) (now (flags .entry))) kind (split s a t)) ⌝ }
-    ensures answer { λ _. ⌜ now (answer .exit) ≡ editedWords (callAnswer (lent (now (shapes .entry)) (now (anchors .entry)) (now (radii .entry)) (now (numbers .entry)) (now (flags .entry))) kind (split s a t)) ⌝ }
-    ensures shapes { λ _. ⌜ now (shapes .exit) ≡ callLists (lent (now (shapes .entry)) (now (anchors .entry)) (now (radii .entry)) (now (numbers .entry)) (now (flags .entry))) kind (split s a t) .shapes ⌝ }
-    ensures anchors { λ _. ⌜ now (anchors .exit) ≡ callLists (lent (now (shapes .entry)) (now (anchors .entry)) (now (radii .entry)) (now (numbers .entry)) (now (flags .entry))) kind (split s a t) .anchors ⌝ }
-    ensures radii { λ _. ⌜ now (radii .exit) ≡ callLists (lent (now (shapes .entry)) (now (anchors .entry)) (now (radii .entry)) (now (numbers .entry)) (now (flags .entry))) kind (split s a t) .radii ⌝ }
-    ensures numbers { λ _. ⌜ now (numbers .exit) ≡ callLists (lent (now (shapes .entry)) (now (anchors .entry)) (now (radii .entry)) (now (numbers .entry)) (now (flags .entry))) kind (split s a t) .numbers ⌝ }
-    ensures flags { λ _. ⌜ now (flags .exit) ≡ callLists (lent (now (shapes .entry)) (now (anchors .entry)) (now (radii .entry)) (now (numbers .entry)) (now (flags .entry))) kind (split s a t) .flags ⌝ }
+    ensures { λ r. ⌜ Tells (lent (now (shapes .entry)) (now (anchors .entry)) (now (radii .entry)) (now (numbers .entry)) (now (flags .entry))) kind (split s a t) r (now (answer .exit)) (lent (now (shapes .exit)) (now (anchors .exit)) (now (radii .exit)) (now (numbers .exit)) (now (flags .exit))) ⌝ }
 {
-    let told = cached_split::split_segment(shapes, anchors, radii, kind, numbers, flags, s, a, t);
+    let at = AnchorRef {
+        subpath: s,
+        anchor: a,
+    };
+    let told = cached_split::split_segment(shapes, anchors, radii, kind, numbers, flags, at, t);
     edited_told(told, answer)
 }
 

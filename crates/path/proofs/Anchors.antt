@@ -4,7 +4,6 @@ use mathlib.Core.Bool.{Bool, true, false, _&&_}
 use mathlib.Core.List.{List}
 use Prim.Native.Nat.{ℕ, _+_, _*_}
 use lib.Ieee.{Float}
-use Rattle.views.specs.View.{entry}
 use Rattle.views.specs.Search.{all}
 use Rattle.views.proofs.Searches.{all-cong}
 use Rattle.real.specs.Limit.{inLimit}

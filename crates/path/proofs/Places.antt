@@ -1,16 +1,18 @@
 -- Anchors in flat lists: what a list reads once an anchor is put to its place. Assumes nothing.
 use mathlib.Core.Path.{_≡_, refl, ap, _∙_, sym}
 use mathlib.Core.Logic.{_⊎_, inl, inr, ⊎-elim}
+use mathlib.Core.Bool.{cond}
 use mathlib.Core.List.{List}
 use Prim.Native.Nat.{ℕ, zero, suc, _+_, _-_, _*_, _/_, _%_, _≤_, _<_}
 use native.Mathlib.Nat.{add-zero}
 use native.Mathlib.Omega.{arith}
-use lib.Dec.{lit<}
+use lib.Dec.{lit<, eqb}
 use lib.ListN.{length}
 use lib.Seq.{sets, length-sets}
 use lib.Ieee.{Float, nan}
+use borrow.Author.Tests.{eq-eqb, ne-eqb}
 use Rattle.views.specs.View.{entry}
-use Rattle.views.proofs.Laws.{order}
+use Rattle.views.proofs.Laws.{order, same}
 use Rattle.views.proofs.Runs.{getD-sets-in, getD-sets-out}
 use Rattle.path.specs.declared.anchor.Anchor.{Anchor}
 use Rattle.path.specs.Flat.{anchorAt, numbers, anchorNumbers, putAnchor}
@@ -79,6 +81,14 @@ module _ (xs : List Float) (k : ℕ) (a : Anchor) where
       other : (i : ℕ) → i < 6 → entry (putAnchor xs k a) (j * 6 + i) ≡ entry xs (j * 6 + i)
       other i l =
           put-out (j * 6 + i) (⊎-elim (λ h. inr (omega arith)) (λ h. inl (omega arith)) (order (k + 1) j))
+
+  -- every place
+  pub put-at : k * 6 + 6 ≤ length xs → (j : ℕ) → anchorAt (putAnchor xs k a) j ≡ cond (eqb j k) a (anchorAt xs j)
+  put-at h j =
+      ⊎-elim
+      (λ e. rw (eq-eqb j k e) (ap (anchorAt (putAnchor xs k a)) e ∙ at-put h))
+      (λ ne. rw (ne-eqb j k ne) (at-put-other j ne))
+      (same j k)
 
   -- ---- a loop that puts anchors from the front: one more, below it and from it on
   pub put-more : (f : ℕ → Anchor) → k * 6 + 6 ≤ length xs → ((j : ℕ) → j < k * 6 → entry xs j ≡ anchorNumbers f j) → a ≡ f k

@@ -16,6 +16,7 @@ pub use limit::Found;
 pub use limit::all_within;
 pub use limit::first_bad_anchor;
 pub use limit::first_bad_place;
+pub use shape::AnchorRef;
 pub use shape::Sized;
 pub use shape::closed_of;
 pub use shape::count_of;

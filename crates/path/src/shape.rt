@@ -27,6 +27,12 @@ pub fn word(n: usize, closed: bool) -> u32
     n as u32
 }
 
+// An anchor by its subpath and its index there; also the segment that starts at it.
+pub struct AnchorRef {
+    pub subpath: usize,
+    pub anchor: usize,
+}
+
 // Whether subpath s has an anchor i.
 pub fn has_anchor(shapes: &[u32], s: usize, i: usize) -> bool
     ensures { λ r. ⌜ r ≡ hasAnchor (now (shapes .entry)) s i ⌝ }

@@ -1,5 +1,4 @@
 pub mod Limits
 pub mod Copies
-pub mod Recuts
-pub mod Parts
-pub mod Rows
+pub mod Unrolling
+pub mod Passing

@@ -1,2 +1,2 @@
 pub mod Near
-pub mod Row
+pub mod Stretch

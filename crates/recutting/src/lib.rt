@@ -1,8 +1,15 @@
-// The places within reach of an edit, recut in a lent cut cache: all of them, or none where one breaks the limit.
-mod copying;
-mod recutting;
+// The places within reach of an edit, recut in a stretch of its subpath: a plan, made from lists that are only read, and then written.
+mod plans;
+mod stretches;
 mod testing;
 
-pub use copying::copy_near;
-pub use recutting::Recut;
-pub use recutting::recut_cache;
+pub use plans::Plan;
+pub use plans::plan_put;
+pub use plans::plan_recut;
+pub use plans::refuse;
+pub use plans::write_places;
+pub use stretches::Gathered;
+pub use stretches::Stretch;
+pub use stretches::gather;
+pub use stretches::rolled;
+pub use stretches::stretch_of;

@@ -5,11 +5,13 @@ ghost use lib.ListN.{length};
 ghost use lib.Seq.{sets};
 ghost use Rattle.views.specs.View.{overwrite};
 ghost use Rattle.cached.specs.Opening.{lent};
-ghost use Rattle.session.specs.Calls.{callAnswer, callLists};
+ghost use Rattle.cached.specs.Doing.{Does};
+ghost use Rattle.session.specs.Calls.{callLists};
 ghost use Rattle.replay.specs.Encoding.{callOf, callAt, callCount};
 ghost use Rattle.replay.specs.Replay.{stage, callWords, answerWord};
 use crate::telling::put_answer;
 use path::Anchor;
+use path::AnchorRef;
 use session::Edited;
 
 // One call: a move, a radius, and else a split.
@@ -21,21 +23,19 @@ fn run_one(
     numbers: &mut [f64],
     flags: &mut [u32],
     which: u32,
-    s: usize,
-    i: usize,
+    at: AnchorRef,
     given: Anchor,
 ) -> Edited
-    ensures answer { λ r. ⌜ r ≡ callAnswer (lent (now (shapes .entry)) (now (anchors .entry)) (now (radii .entry)) (now (numbers .entry)) (now (flags .entry))) kind (callOf which s i given) ⌝ }
-    ensures lists { λ _. ⌜ lent (now (shapes .exit)) (now (anchors .exit)) (now (radii .exit)) (now (numbers .exit)) (now (flags .exit)) ≡ callLists (lent (now (shapes .entry)) (now (anchors .entry)) (now (radii .entry)) (now (numbers .entry)) (now (flags .entry))) kind (callOf which s i given) ⌝ }
+    ensures { λ r. ⌜ Does (lent (now (shapes .entry)) (now (anchors .entry)) (now (radii .entry)) (now (numbers .entry)) (now (flags .entry))) kind (callOf which (at .subpath) (at .anchor) given) r (lent (now (shapes .exit)) (now (anchors .exit)) (now (radii .exit)) (now (numbers .exit)) (now (flags .exit))) ⌝ }
 {
     if which == 0 {
-        return cached::move_anchor(shapes, anchors, radii, kind, numbers, flags, s, i, given);
+        return cached::move_anchor(shapes, anchors, radii, kind, numbers, flags, at, given);
     }
     let x = given.p.x;
     if which == 1 {
-        return cached::set_radius(shapes, anchors, radii, kind, numbers, flags, s, i, x);
+        return cached::set_radius(shapes, anchors, radii, kind, numbers, flags, at, x);
     }
-    cached_split::split_segment(shapes, anchors, radii, kind, numbers, flags, s, i, x)
+    cached_split::split_segment(shapes, anchors, radii, kind, numbers, flags, at, x)
 }
 
 // A word as an index.
@@ -65,6 +65,10 @@ fn run_call(
     let which = codes[j * 3];
     let s = index(codes[j * 3 + 1]);
     let i = index(codes[j * 3 + 2]);
+    let at = AnchorRef {
+        subpath: s,
+        anchor: i,
+    };
     let given = path::anchor_at(values, j);
     let edited = run_one(
         shapes,
@@ -74,8 +78,7 @@ fn run_call(
         numbers,
         flags,
         which,
-        s,
-        i,
+        at,
         given,
     );
     put_answer(answers, j, edited, shapes, s);

@@ -70,10 +70,10 @@ stands d (split s a t) few h =
     let there = segment-sub (d .shapes) s a h in
     let seg = segment-there (d .shapes) s a h in
     let small = sub-small (d .shapes) s there few in
-    let n = split-count d s a t there seg small in
+    let n = split-count (d .shapes) s a there seg small in
     record {
-      begins = split-start d s a t there seg small;
-      inside = omega (arith, n, total-in (d .shapes) s there, split-total d s a t there seg small);
+      begins = split-start (d .shapes) s a there seg small;
+      inside = omega (arith, n, total-in (d .shapes) s there, split-total (d .shapes) s a there seg small);
       index = omega (arith, n, segment-in _ _ a seg);
     }
 

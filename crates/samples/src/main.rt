@@ -5,6 +5,7 @@ use cubic_calls::Number;
 use cubic_calls::Point;
 use geom::P;
 use path::Anchor;
+use path::AnchorRef;
 use session::Edited;
 use svg_calls::Answer;
 
@@ -178,6 +179,13 @@ fn edited(label: &[u8], a: Edited) {
     say(b"\n");
 }
 
+fn first_anchor() -> AnchorRef {
+    AnchorRef {
+        subpath: 0,
+        anchor: 0,
+    }
+}
+
 // How many places an edit recuts does not turn on where the anchors are: here they are all in one point.
 fn recuts_of_move(label: &[u8], word: u32) {
     let shapes = [word];
@@ -193,8 +201,7 @@ fn recuts_of_move(label: &[u8], word: u32) {
         0,
         &mut numbers,
         &mut flags,
-        0,
-        0,
+        first_anchor(),
         new,
     );
     edited(label, a);
@@ -213,8 +220,7 @@ fn recuts_of_radius(label: &[u8], word: u32) {
         0,
         &mut numbers,
         &mut flags,
-        0,
-        0,
+        first_anchor(),
         1.0,
     );
     edited(label, a);
@@ -233,8 +239,7 @@ fn recuts_of_split(label: &[u8], word: u32) {
         0,
         &mut numbers,
         &mut flags,
-        0,
-        0,
+        first_anchor(),
         0.5,
     );
     edited(label, a);

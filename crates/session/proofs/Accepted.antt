@@ -98,11 +98,11 @@ module _ (l : Lent) (kind s a : ℕ) (t : Float) (there : s < length (l .shapes)
 
   made-there : s < length (splitShapes (l .shapes) s)
   unfolding drawn
-  made-there = omega (arith, split-length (drawn l kind) s a t there seg small)
+  made-there = omega (arith, split-length (l .shapes) s a there seg small)
 
   made-start : start (splitShapes (l .shapes) s) s ≡ start (l .shapes) s
   unfolding drawn
-  made-start = split-start (drawn l kind) s a t there seg small
+  made-start = split-start (l .shapes) s a there seg small
 
   module _ (w : View) (like : Like (viewIn (splitAt (drawn l kind) s a t) s) w) where
     pub split-numbers-left : (shifted : List Float) → after * 12 ≤ length (l .numbers) → length shifted ≡ length (l .numbers)

@@ -29,11 +29,13 @@ use Rattle.cut_calls.specs.CornerKinds.{kindOf, isKnown}
 use Rattle.cut_calls.specs.PlainCut.{subAt}
 use Rattle.session.specs.declared.answers.Edited.the-variants.{Refused, Accepted}
 use Rattle.session.specs.Drawing.{Lent, drawn, cornerKind, viewIn}
-use Rattle.cache.specs.Cache.{placeOfPath, cachedFlags, cachedIn}
+use Rattle.cache.specs.Cache.{placeOfPath, cachedNumbers, cachedFlags, cachedIn}
 use Rattle.cache.specs.Tests.{cacheFits}
 use Rattle.edit.specs.Split.{halves, shifted, splitAnchors, splitShapes, hasSegment}
 use Rattle.session.specs.Edits.{move, setRadius, split, moved, resized, segmentStart, segmentEnd, splitRadii, splitAt, editOf, placesOf}
-use Rattle.session.specs.Calls.{listsFit, writtenGood, recutGood, editLimit, roomIn, editVerdict, editAnswer, flagsAfter, editedLists, listsAfter, callVerdict, callAnswer, callLists}
+use Rattle.session.specs.Calls.{listsFit, writtenGood, recutGood, editLimit, roomIn, editVerdict, editAnswer, numbersAfter, flagsAfter, editedLists, listsAfter, callVerdict, callAnswer, callLists}
+use Rattle.session.specs.Commute.{apart, BothOrders, Commute}
+use Rattle.session.proofs.Commute.{commute}
 
 abbrev half : Float
 half = ofBits binary64 0x3FE0_0000_0000_0000
@@ -110,3 +112,12 @@ four = record { shapes = 2 ∷ 2 ∷ []; anchors = replicate 24 (float 1); radii
 flags-four : callLists four 1 (move 1 0 left) .flags ≡ 2147483649 ∷ 3 ∷ 0 ∷ 0 ∷ 6 ∷ []
 unfolding callLists listsAfter editedLists overwrite flagsAfter cachedFlags callAnswer callVerdict editVerdict editAnswer editOf moved resized splitAt anchorGood hasAnchor hasSegment isSegment listsFit cacheFits roomIn writtenGood recutGood editLimit drawn drawingFits drawingLimit pathFits places placeIn anchorIn verdict firstFailing tests holds judge kindOf isKnown cornerKind all firstFalse count inLimit numbers splitShapes segmentStart segmentEnd shifted splitAnchors splitRadii halves old next prev reached near gap viewIn viewOf subAt subOf placesOf placeOfPath placeAt placeOf placeNumbers cachedIn isCut fittedAt cornerAt arrives leaves inAt outAt trimmedAt splitCubic lerp plus minus times ofBits ofInt add mul sub lt le eq
 flags-four = refl
+
+-- ---- two edits of one anchor, of different sorts: both orders are accepted
+both-orders : BothOrders two 0 (move 0 1 left) (setRadius 0 1 half)
+unfolding callLists listsAfter editedLists overwrite anchorNumbers numbersAfter cachedNumbers flagsAfter cachedFlags callAnswer callVerdict editVerdict editAnswer editOf moved resized splitAt anchorGood hasAnchor hasSegment isSegment listsFit cacheFits roomIn writtenGood recutGood editLimit drawn drawingFits drawingLimit pathFits places placeIn anchorIn verdict firstFailing tests holds judge kindOf isKnown cornerKind all firstFalse count inLimit numbers splitShapes segmentStart segmentEnd shifted splitAnchors splitRadii halves old next prev reached near gap viewIn viewOf subAt subOf placesOf placeOfPath placeAt placeOf placeNumbers cachedIn isCut fittedAt cornerAt arrives leaves inAt outAt trimmedAt splitCubic lerp plus minus times ofBits ofInt add mul sub lt le eq
+both-orders = record { first-c = refl; then-d = refl; first-d = refl; then-c = refl }
+
+commuting : Commute two 0 (move 0 1 left) (setRadius 0 1 half)
+unfolding apart
+commuting = commute two 0 (move 0 1 left) (setRadius 0 1 half) refl both-orders

@@ -37,9 +37,9 @@ split-recut d s a t few h =
     let seg = segment-there (d .shapes) s a h in
     let small = sub-small (d .shapes) s there few in
     let v = viewIn (splitAt d s a t) s in
-    let n : v .n ≡ countOf (wordAt (d .shapes) s) + 1 = made-n d s a t ∙ split-count d s a t there seg small in
-    let c : v .closed ≡ closedOf (wordAt (d .shapes) s) = made-closed d s a t ∙ split-closed d s a t there seg small in
-    reached-count v (start (d .shapes) s) 4 (a + 1) (total (splitAt d s a t .shapes)) (omega (arith, split-total d s a t there seg small, total-in (d .shapes) s there))
+    let n : v .n ≡ countOf (wordAt (d .shapes) s) + 1 = made-n d s a t ∙ split-count (d .shapes) s a there seg small in
+    let c : v .closed ≡ closedOf (wordAt (d .shapes) s) = made-closed d s a t ∙ split-closed (d .shapes) s a there seg small in
+    reached-count v (start (d .shapes) s) 4 (a + 1) (total (splitAt d s a t .shapes)) (omega (arith, split-total (d .shapes) s a there seg small, total-in (d .shapes) s there))
     ∙ rw (n, c)
 
 pub recut-count : (d : Drawing) (c : Call) → total (d .shapes) ≤ 512 → editOf d c .known ≡ true → count (editOf d c .recuts) (total (editOf d c .made .shapes)) ≡ recutCount d c

@@ -33,7 +33,8 @@ use Rattle.session.specs.Session.{Turn, after, Linked, answers, afterAll
 use Rattle.session.specs.Demand.{Holds, Agrees, Demand3}
 use Rattle.session.proofs.Judging.{places-say, places-then}
 use Rattle.session.proofs.Lents.{long-says, fits-same}
-use Rattle.session.proofs.Step.{Fine, number-of, step}
+use Rattle.session.proofs.Step.{Fine, step}
+use Rattle.session.proofs.Twins.{number-of}
 use Rattle.session.proofs.Spared.{spares-all}
 use Rattle.session.proofs.Outlines.{outline-plain, plain-count}
 use Rattle.session.proofs.Assembling.{assembles}
@@ -101,15 +102,15 @@ module _ (l : Lent) (kind : ℕ) (yes : builtVerdict l kind ≡ accepted) where
   unfolding builtVerdict
   verdict-yes = yes
 
-  numbers-built : builtLists l kind .numbers ≡ overwrite (n * 12) (cachedNumbers (placesOf (drawn l kind))) (l .numbers)
+  pub numbers-built : builtLists l kind .numbers ≡ overwrite (n * 12) (cachedNumbers (placesOf (drawn l kind))) (l .numbers)
   unfolding builtLists buildNumbers listLeft
   numbers-built = rw (verdict-yes, same-places)
 
-  flags-built : builtLists l kind .flags ≡ overwrite n (cachedFlags (placesOf (drawn l kind))) (l .flags)
+  pub flags-built : builtLists l kind .flags ≡ overwrite n (cachedFlags (placesOf (drawn l kind))) (l .flags)
   unfolding builtLists buildFlags listLeft
   flags-built = rw (verdict-yes, same-places)
 
-  built-held : Holds (builtLists l kind) (drawn l kind)
+  pub built-held : Holds (builtLists l kind) (drawn l kind)
   unfolding builtLists drawn lengthsOf cachedFlags
   built-held =
       let g = long-says (lengthsOf l) n (and-right (smallPath (l .shapes)) (longFor (lengthsOf l) n) fits) in

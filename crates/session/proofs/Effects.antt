@@ -12,7 +12,7 @@ use borrow.Author.Tests.{ltb-true, eqb-false, ne-eqb}
 use Rattle.views.proofs.Laws.{same}
 use Rattle.views.proofs.Bools.{and-left, and-right}
 use Rattle.path.specs.declared.anchor.Anchor.{Anchor}
-use Rattle.path.specs.Shape.{countOf, closedOf, total, wordAt, start, subOf, isSegment, next, hasAnchor}
+use Rattle.path.specs.Shape.{countOf, closedOf, total, wordAt, start, subOf, isSegment, next}
 use Rattle.path.proofs.Shapes.{total-in, has-says}
 use Rattle.cut.specs.Subpath.{viewOf}
 use Rattle.cut.specs.Near.{old}
@@ -42,9 +42,9 @@ pub sub-small : (shapes : List ℕ) (s : ℕ) → s < length shapes → total sh
 sub-small shapes s h l = omega (arith, total-in shapes s h)
 
 -- two places of different subpaths differ
-apart : (shapes : List ℕ) (r s i j : ℕ) → r < length shapes → s < length shapes → j < countOf (wordAt shapes r) → i < countOf (wordAt shapes s) → (r ≡ s → ⊥)
+pub other-place : (shapes : List ℕ) (r s i j : ℕ) → r < length shapes → s < length shapes → j < countOf (wordAt shapes r) → i < countOf (wordAt shapes s) → (r ≡ s → ⊥)
     → start shapes r + j ≡ start shapes s + i → ⊥
-apart shapes r s i j rl sl jl il ne e =
+other-place shapes r s i j rl sl jl il ne e =
     ne (sym (sub-is shapes (start shapes r + j) r (record { there = rl; low = omega arith; high = omega arith }))
     ∙ ap (subOf shapes) e
     ∙ sub-is shapes (start shapes s + i) s (record { there = sl; low = omega arith; high = omega arith }))
@@ -76,7 +76,7 @@ module _ (d : Drawing) (s i : ℕ) (there : s < length (d .shapes)) (inside : i 
         n = refl;
         closed = refl;
         chords = refl;
-        anchors = λ j h. rw (ne-eqb (start sh (subOf sh k) + j) (first + i) (apart sh (subOf sh k) s i j (I .there) there h inside ne));
+        anchors = λ j h. rw (ne-eqb (start sh (subOf sh k) + j) (first + i) (other-place sh (subOf sh k) s i j (I .there) there h inside ne));
         radii = λ j h. refl;
         kinds = λ j h. refl;
       }) (k - start sh (subOf sh k)) (omega (arith, I .low, I .high)))
@@ -102,7 +102,7 @@ module _ (d : Drawing) (s i : ℕ) (there : s < length (d .shapes)) (inside : i 
         closed = refl;
         chords = refl;
         anchors = λ j h. refl;
-        radii = λ j h. rw (ne-eqb (start sh (subOf sh k) + j) (first + i) (apart sh (subOf sh k) s i j (I .there) there h inside ne));
+        radii = λ j h. rw (ne-eqb (start sh (subOf sh k) + j) (first + i) (other-place sh (subOf sh k) s i j (I .there) there h inside ne));
         kinds = λ j h. refl;
       }) (k - start sh (subOf sh k)) (omega (arith, I .low, I .high)))
       (same (subOf sh k) s)
@@ -155,7 +155,7 @@ faithful d (split s a t) few h =
     let seg = segment-there (d .shapes) s a h in
     let small = sub-small (d .shapes) s there few in
     record {
-      stood-in = λ k l. split-stood d s a t there seg small k l;
+      stood-in = λ k l. split-stood (d .shapes) s a there seg small k l;
       anchor-kept = λ k l e. split-anchor d s a t k e;
       cut-kept = λ k l far. split-kept d s a t there seg small k l far;
     }
@@ -200,8 +200,8 @@ module _ (shapes : List ℕ) (kind : ℕ) (f g : ℕ → Anchor) (r q : ℕ → 
       let x = alike .anchors (first + a) (omega arith) in
       let y = alike .anchors (first + next n a) (omega (arith, next-lt n a from)) in
       record {
-        anchors = λ k l. let z = alike .anchors (old (first + a) k) (split-stood (draw shapes kind f r) s a t there seg small k l) in rw (x, y, z);
-        radii = λ k l. let z = alike .radii (old (first + a) k) (split-stood (draw shapes kind f r) s a t there seg small k l) in rw z;
+        anchors = λ k l. let z = alike .anchors (old (first + a) k) (split-stood shapes s a there seg small k l) in rw (x, y, z);
+        radii = λ k l. let z = alike .radii (old (first + a) k) (split-stood shapes s a there seg small k l) in rw z;
       }
 
   pub made-alike : (c : Call) → total shapes ≤ 512 → editOf (draw shapes kind f r) c .known ≡ true

@@ -11,15 +11,12 @@ use lib.Seq.{getD-append-add, getD-drop}
 use lib.Ieee.{Float, nan}
 use borrow.Author.Tests.{leb-true}
 use Rattle.views.specs.View.{entry, overwrite}
-use Rattle.views.proofs.Bools.{and-left, and-right}
+use Rattle.views.proofs.Bools.{both, and-left, and-right}
 use Rattle.views.proofs.Laws.{order, length-overwrite, at-overwrite}
-use Rattle.views.proofs.Searches.{all-cong}
-use Rattle.real.specs.Limit.{inLimit}
 use Rattle.path.specs.declared.anchor.Anchor.{Anchor}
 use Rattle.path.specs.Shape.{total}
 use Rattle.path.specs.Flat.{anchorAt, numbers, anchorNumbers}
-use Rattle.path.specs.Limit.{anchorGood, anchorIn}
-use Rattle.path.proofs.Places.{anchor-number, numbers-at}
+use Rattle.path.proofs.Places.{anchor-number}
 use Rattle.call.specs.Tests.{pathFits, drawingFits}
 use Rattle.session.specs.Drawing.{Lent}
 use Rattle.cache.specs.Tests.{cacheFits}
@@ -67,6 +64,14 @@ fits-same l = go (leb (length (l .shapes)) 32) (leb (total (l .shapes)) 512) (le
     go true true c d e = turned c d e
     go true false c d e = refl
     go false b c d e = refl
+
+-- lists that pass it: at most 512 places, and long enough for them
+pub fits-long : (l : Lent) → listsFit l ≡ true → (total (l .shapes) ≤ 512) × Long (lengthsOf l) (total (l .shapes))
+unfolding smallPath
+fits-long l h =
+    let n = total (l .shapes) in
+    let x = both (smallPath (l .shapes)) (longFor (lengthsOf l) n) (sym (fits-same l) ∙ h) in
+    (leb-true n 512 (and-right (leb (length (l .shapes)) 32) (leb n 512) (x .0)), long-says (lengthsOf l) n (x .1))
 
 pub room-same : (l : Lent) (n : ℕ) → roomIn l n ≡ longFor (lengthsOf l) n
 unfolding roomIn longFor lengthsOf

@@ -5,6 +5,7 @@ pub mod Effects
 pub mod Counts
 pub mod Lents
 pub mod Verdicts
+pub mod Twins
 pub mod Step
 pub mod Spared
 pub mod Outlines
@@ -15,3 +16,7 @@ pub mod Recutting
 pub mod Accepted
 pub mod Controls
 pub mod Plays
+pub mod Commute
+pub mod Opened
+pub mod Undo
+pub mod Undos

@@ -12,17 +12,12 @@ use lib.Ieee.{Float, nan}
 use borrow.Author.Tests.{leb-true, ltb-true, eq-eqb, ne-eqb}
 use Rattle.views.specs.View.{entry, tabulate, overwrite}
 use Rattle.views.proofs.Bools.{and-left, and-right}
-use Rattle.views.specs.Search.{all}
 use Rattle.views.proofs.Laws.{order, same, length-tabulate, at-tabulate, length-overwrite, at-overwrite, past-overwrite, as-overwrite}
-use Rattle.views.proofs.Searches.{all-cong}
-use Rattle.real.specs.Limit.{inLimit}
 use Rattle.path.specs.declared.anchor.Anchor.{Anchor}
 use Rattle.path.specs.Shape.{countOf, total, wordAt, start}
 use Rattle.path.specs.Flat.{anchorAt, numbers, anchorNumbers, putAnchor}
 use Rattle.path.proofs.Shapes.{total-in}
-use Rattle.path.proofs.Limits.{GoodBelow, Least}
 use Rattle.path.proofs.Places.{length-put, put-in, put-out, numbers-at}
-use Rattle.corner.specs.declared.cut.CornerKind.{CornerKind}
 use Rattle.cut.specs.View.{View}
 use Rattle.cut.specs.Subpath.{viewOf}
 use Rattle.cut.specs.Near.{near}
@@ -30,37 +25,13 @@ use Rattle.cut.specs.Places.{isCut, placeAt, placeNumbers}
 use Rattle.cut.specs.Rows.{flagOf}
 use Rattle.cut.specs.Recut.{reached, recutNumbers, recutFlags}
 use Rattle.cut.proofs.Outlines.{place-cut}
-use Rattle.cut_calls.specs.declared.kinds.Kind.the-variants.{Known}
-use Rattle.cut_calls.specs.CornerKinds.{kindOf}
 use Rattle.cut_calls.specs.PlainCut.{subAt}
-use Rattle.cache.proofs.Reached.{reached-here, reached-past}
-use Rattle.session.specs.Drawing.{Drawing, cornerKind, viewIn}
-use Rattle.cache.specs.Cache.{cachedNumbers, cachedFlags, cachedIn}
+use Rattle.cache.proofs.Reached.{reached-past}
+use Rattle.session.specs.Drawing.{viewIn}
+use Rattle.cache.specs.Cache.{cachedNumbers, cachedFlags}
 use Rattle.session.specs.Edits.{Edit, placesOf}
-use Rattle.session.specs.Calls.{recutGood, numbersAfter, flagsAfter}
+use Rattle.session.specs.Calls.{numbersAfter, flagsAfter}
 use Rattle.session.proofs.Splits.{place-in, Like, like-places}
-
--- ---- a drawing in lists, seen by subpath: what `cut::recut` is given
-pub record Given (made : Drawing) (s : ℕ) (anchors radii : List Float) (kind : CornerKind) : Type 0 where
-  pub known : cornerKind (kindOf (made .kind)) ≡ kind
-  pub anchor : (j : ℕ) → j < countOf (wordAt (made .shapes) s) → anchorAt anchors (start (made .shapes) s + j) ≡ made .anchor (start (made .shapes) s + j)
-  pub radius : (j : ℕ) → j < countOf (wordAt (made .shapes) s) → entry radii (start (made .shapes) s + j) ≡ made .radius (start (made .shapes) s + j)
-
-pub given-like : (made : Drawing) (s : ℕ) (anchors radii : List Float) (kind : CornerKind) → Given made s anchors radii kind
-    → Like (viewIn made s) (viewOf (anchorAt anchors) (entry radii) (λ k. kind) 128 (subAt (made .shapes) s))
-unfolding viewIn viewOf subAt
-given-like made s anchors radii kind g = record {
-  n = refl;
-  closed = refl;
-  chords = refl;
-  anchors = g .anchor;
-  radii = g .radius;
-  kinds = λ j h. sym (g .known);
-}
-
-pub known-kind : (number : ℕ) (kind : CornerKind) → kindOf number ≡ Known kind → cornerKind (kindOf number) ≡ kind
-unfolding cornerKind
-known-kind number kind e = rw e
 
 -- ---- what is recut, number by number
 module _ (e : Edit) (s first reach at : ℕ) (there : s < length (e .made .shapes)) (from : start (e .made .shapes) s ≡ first)
@@ -145,60 +116,6 @@ module _ (e : Edit) (s first reach at : ℕ) (there : s < length (e .made .shape
         (λ (h : n ≤ k). rw (reached-same k, past k h) (rest k h) ∙ sym (past-overwrite 0 n (flagsAfter e fs) fs k h))
         (λ (h : k < n). flag k h ∙ sym (at-overwrite 0 n (flagsAfter e fs) fs k h (omega arith)))
         (order n k))
-
-  -- the twelve numbers of a place that was recut, as they stand in the list: what test 9 looks at
-  pub recut-in : (before : List Float) (k : ℕ) → e .recuts k ≡ true → k * 12 + 12 ≤ length before
-      → all (λ q. inLimit (entry (recutNumbers w first reach at before) (k * 12 + q))) 12 ≡ cachedIn (placesOf (e .made)) k
-  unfolding recutNumbers cachedIn
-  recut-in before k h room =
-      all-cong _ _ 12
-      (λ q l.
-      let x : (k * 12 + q) / 12 ≡ k = omega arith in
-      let y : (k * 12 + q) % 12 ≡ q = omega arith in
-      ap inLimit (at-tabulate nan (length before) _ (k * 12 + q) (omega arith) ∙ rw (x, y, reached-same k, h, recut-place k h)))
-
-  -- ---- test 9 of the recut places, by a walk over the subpath
-  module _ (before : List Float) (long : n * 12 ≤ length before) where
-    abbrev passes-at : ℕ → Bool
-    passes-at j = all (λ q. inLimit (entry (recutNumbers w first reach at before) ((first + j) * 12 + q))) 12
-
-    v-inside : first + v .n ≤ n
-    v-inside = omega (arith, total-in (e .made .shapes) s there, v-count)
-
-    good-at : (j : ℕ) → j < v .n → near reach (v .n) (v .closed) at j ≡ true → recutGood e (first + j) ≡ passes-at j
-    unfolding recutGood
-    good-at j l h =
-        let y : e .recuts (first + j) ≡ true = recuts (first + j) ∙ reached-here v first reach at (first + j) (omega arith) (omega arith) ∙ ap (near reach (v .n) (v .closed) at) (omega arith) ∙ h in
-        rw y (sym (recut-in before (first + j) y (omega (arith, v-inside))))
-
-    good-off : (k : ℕ) → e .recuts k ≡ false → recutGood e k ≡ true
-    unfolding recutGood
-    good-off k h = rw h
-
-    good-below : (m : ℕ) → m ≤ v .n → ((j : ℕ) → j < m → near reach (v .n) (v .closed) at j ≡ true → passes-at j ≡ true) → (k : ℕ) → k < first + m → recutGood e k ≡ true
-    good-below m l h k kl = go (e .recuts k) refl
-      where
-        go : (b : Bool) → e .recuts k ≡ b → recutGood e k ≡ true
-        go false y = good-off k y
-        go true y =
-            let r = within k y in
-            let j = k - first in
-            let z : first + j ≡ k = omega (arith, r .0) in
-            let x : near reach (v .n) (v .closed) at j ≡ true = sym (reached-here v first reach at k (r .0) (r .1)) ∙ sym (recuts k) ∙ y in
-            ap (recutGood e) (sym z) ∙ good-at j (omega (arith, r .0, r .1)) x ∙ h j (omega (arith, r .0)) x
-
-    -- all passed
-    pub recut-all : ((j : ℕ) → j < v .n → near reach (v .n) (v .closed) at j ≡ true → passes-at j ≡ true) → GoodBelow (recutGood e) n
-    recut-all h k kl =
-        ⊎-elim
-        (λ (m : first + v .n ≤ k). good-off k (recuts k ∙ reached-past v first reach at k m))
-        (λ (m : k < first + v .n). good-below (v .n) (omega arith) h k m)
-        (order (first + v .n) k)
-
-    -- index j is the first that did not
-    pub recut-least : (j : ℕ) → j < v .n → near reach (v .n) (v .closed) at j ≡ true → passes-at j ≡ false
-        → ((i : ℕ) → i < j → near reach (v .n) (v .closed) at i ≡ true → passes-at i ≡ true) → Least (recutGood e) n (first + j)
-    recut-least j l h b below = record { place = omega (arith, v-inside); bad = good-at j l h ∙ b; below = good-below j (omega arith) below }
 
 -- ---- the drawing's lists
 moved-here : (xs : List Float) (place : ℕ) (new : Anchor) (j : ℕ) → j / 6 ≡ place → anchorNumbers (λ k. cond (eqb k place) new (anchorAt xs k)) j ≡ entry (numbers new) (j % 6)

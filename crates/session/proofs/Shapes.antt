@@ -10,7 +10,6 @@ use lib.ListN.{length, set}
 use lib.Seq.{take-set-le}
 use borrow.Author.Tests.{lt-ltb, le-ltb, ltb-true, ltb-false, leb-true, leb-false, le-leb, lt-leb}
 use Rattle.path.specs.Shape.{countOf, closedOf, total, wordAt, start, subOf}
-use Rattle.path.proofs.Shapes.{total-in}
 
 -- place k lies in subpath s
 pub record In (shapes : List ℕ) (k s : ℕ) : Type 0 where
@@ -44,10 +43,6 @@ sub-before [] r s h l = absurd (not-suc-le-zero h)
 sub-before (w ∷ ws) r zero h l = absurd (not-suc-le-zero l)
 sub-before (w ∷ ws) zero (suc s) h l = omega arith
 sub-before (w ∷ ws) (suc r) (suc s) h l = omega (arith, sub-before ws r s (le-of-suc-le-suc h) (le-of-suc-le-suc l))
-
--- a place in a subpath is a place of the path
-pub in-total : (shapes : List ℕ) (k s : ℕ) → In shapes k s → k < total shapes
-in-total shapes k s i = omega (arith, total-in shapes s (i .there))
 
 -- ---- one subpath an anchor longer
 module _ (v : ℕ) where

@@ -4,24 +4,22 @@ use mathlib.Core.List.{List, [], _∷_}
 use Prim.Native.Nat.{ℕ, _+_, _*_}
 use native.Mathlib.Omega.{arith}
 use lib.ListN.{getD}
-use lib.Ieee.{Float, nan}
+use lib.Ieee.{nan}
 use Rattle.views.specs.View.{entry}
 use Rattle.views.specs.Search.{count}
 use Rattle.views.proofs.Laws.{at-overwrite, past-overwrite}
 use Rattle.refusal.specs.Order.{Verdict, accepted, refused}
 use Rattle.refusal.proofs.Verdicts.{holds-says, accepted-says}
-use Rattle.path.specs.declared.anchor.Anchor.{Anchor}
 use Rattle.path.specs.Shape.{total}
 use Rattle.session.specs.declared.answers.Edited.the-variants.{Refused, Accepted}
 use Rattle.session.specs.Drawing.{Lent, drawn}
-use Rattle.session.specs.Edits.{Call, move, setRadius, Edit, moved, resized, editOf}
+use Rattle.session.specs.Edits.{Call, Edit, editOf}
 use Rattle.session.specs.Calls.{roomIn, editAnswer, numbersAfter, flagsAfter, editedLists, listsAfter, editVerdict, callVerdict, callAnswer, callLists}
 use Rattle.session.specs.Model.{lengthsOf}
 use Rattle.session.specs.Session.{Turn}
 use Rattle.session.specs.Demand.{Untouched, Spares, SparesAll}
 use Rattle.session.proofs.Lents.{Long, long-says, room-same}
-use Rattle.session.proofs.Step.{number-after}
-use Rattle.session.proofs.Recutting.{radius-anchors, move-radii}
+use Rattle.session.proofs.Twins.{number-after}
 
 module _ (l : Lent) (kind : ℕ) (c : Call) (yes : callVerdict l kind c ≡ accepted) where
   abbrev e : Edit
@@ -74,21 +72,3 @@ spares l kind c = record { refusal = λ n place h. whole n place (callVerdict l 
 pub spares-all : (kind : ℕ) (ts : List Turn) → SparesAll kind ts
 spares-all kind [] = tt
 spares-all kind (t ∷ ts) = (spares (t .lent) kind (t .call), spares-all kind ts)
-
--- ---- the lists that a kind of call never changes, accepted or refused
-module _ (l : Lent) (kind s i : ℕ) where
-  pub move-leaves : (new : Anchor) → (l .shapes ≡ callLists l kind (move s i new) .shapes) × (l .radii ≡ callLists l kind (move s i new) .radii)
-  unfolding callLists listsAfter editedLists editOf moved drawn
-  move-leaves new = go (callVerdict l kind (move s i new))
-    where
-      go : (v : Verdict) → let now = listsAfter v (editedLists l (editOf (drawn l kind) (move s i new))) l in (l .shapes ≡ now .shapes) × (l .radii ≡ now .radii)
-      go accepted = (refl, move-radii (l .radii) (total (l .shapes)))
-      go (refused c k) = (refl, refl)
-
-  pub radius-leaves : (r : Float) → (l .shapes ≡ callLists l kind (setRadius s i r) .shapes) × (l .anchors ≡ callLists l kind (setRadius s i r) .anchors)
-  unfolding callLists listsAfter editedLists editOf resized drawn
-  radius-leaves r = go (callVerdict l kind (setRadius s i r))
-    where
-      go : (v : Verdict) → let now = listsAfter v (editedLists l (editOf (drawn l kind) (setRadius s i r))) l in (l .shapes ≡ now .shapes) × (l .anchors ≡ now .anchors)
-      go accepted = (refl, radius-anchors (l .anchors) (total (l .shapes)))
-      go (refused c k) = (refl, refl)

@@ -1,17 +1,15 @@
 -- A split, place by place: what it writes, what it shifts, and that the cut is as it was more than four steps from the new anchor. Assumes nothing.
 use mathlib.Core.Path.{_≡_, refl, sym, ap, _∙_}
-use mathlib.Core.Logic.{_⊎_, inl, inr, ⊎-elim}
-use mathlib.Core.Bool.{Bool, true, false, _&&_, _||_}
+use mathlib.Core.Logic.{_⊎_, ⊎-elim}
+use mathlib.Core.Bool.{Bool, true, false}
 use mathlib.Core.List.{List}
 use Prim.Native.Nat.{ℕ, _+_, _-_, _≤_, _<_}
 use native.Mathlib.Omega.{arith}
-use lib.Dec.{ltb, eqb}
 use lib.ListN.{length, length-set}
 use lib.Seq.{getD-set-same, getD-set-other}
 use lib.Ieee.{Float}
-use borrow.Author.Tests.{ltb-true, le-leb, lt-leb, eqb-true, ne-eqb}
+use borrow.Author.Tests.{ne-eqb}
 use Rattle.views.proofs.Laws.{order, same}
-use Rattle.views.proofs.Bools.{and-left, and-right}
 use Rattle.path.specs.declared.anchor.Anchor.{Anchor}
 use Rattle.path.specs.Shape.{countOf, closedOf, total, wordAt, start, subOf, isSegment, next}
 use Rattle.path.proofs.Shapes.{total-in}
@@ -20,8 +18,8 @@ use Rattle.cut.specs.Subpath.{viewOf}
 use Rattle.cut.specs.Near.{gap, near, old}
 use Rattle.cut.specs.Places.{placeAt}
 use Rattle.cut.specs.Recut.{reached}
-use Rattle.cut.proofs.Steps.{next-in, next-round, next-lt}
-use Rattle.cut.proofs.Locality.{locality, Inserted, Far, far-of, old-low, old-high, split-locality}
+use Rattle.cut.proofs.Steps.{next-in, next-round, next-lt, segment-cases}
+use Rattle.cut.proofs.Locality.{locality, Inserted, Far, far-of, old-low, old-high, shifted-low, shifted-high, split-locality}
 use Rattle.cut_calls.specs.PlainCut.{subAt}
 use Rattle.session.specs.Drawing.{Drawing, viewIn}
 use Rattle.cache.specs.Cache.{placeOfPath}
@@ -54,26 +52,10 @@ like-places v w a i l = locality v w i l (record {
 })
 
 -- ---- the segments of a subpath
-pub segment-cases : (n : ℕ) (c : Bool) (a : ℕ) → isSegment n c a ≡ true → (a + 1 < n) ⊎ ((c ≡ true) × (a + 1 ≡ n))
-unfolding isSegment
-segment-cases n c a = go (ltb (a + 1) n) refl (eqb (a + 1) n) refl
-  where
-    go : (p : Bool) → ltb (a + 1) n ≡ p → (q : Bool) → eqb (a + 1) n ≡ q → (p || c && (ltb 1 n && q)) ≡ true → (a + 1 < n) ⊎ ((c ≡ true) × (a + 1 ≡ n))
-    go true e q f h = inl (ltb-true (a + 1) n e)
-    go false e q f h = inr (and-left c (ltb 1 n && q) h, eqb-true (a + 1) n (f ∙ and-right (ltb 1 n) q (and-right c (ltb 1 n && q) h)))
-
 pub segment-in : (n : ℕ) (c : Bool) (a : ℕ) → isSegment n c a ≡ true → a < n
 segment-in n c a h = ⊎-elim (λ (l : a + 1 < n). omega arith) (λ (l : (c ≡ true) × (a + 1 ≡ n)). let e = l .1 in omega arith) (segment-cases n c a h)
 
 -- where the end of the segment from a stands afterwards: in the subpath, of one anchor more
-shifted-low : (a j : ℕ) → j ≤ a → shifted a j ≡ j
-unfolding shifted
-shifted-low a j h = rw (le-leb j a h)
-
-shifted-high : (a j : ℕ) → a < j → shifted a j ≡ j + 1
-unfolding shifted
-shifted-high a j h = rw (lt-leb j a h)
-
 end-in : (first n a : ℕ) → a < n → (first ≤ shifted (first + a) (first + next n a)) × (shifted (first + a) (first + next n a) < first + (n + 1))
 end-in first n a l =
     let h = next-lt n a l in
@@ -98,23 +80,20 @@ pub anchor-stood : (f : ℕ → Anchor) (a b : ℕ) (t : Float) (k : ℕ) → (k
 unfolding splitAnchors
 anchor-stood f a b t k p q r = rw (ne-eqb k a p, ne-eqb k (a + 1) q, ne-eqb k (shifted a b) r)
 
-radius-stood : (f : ℕ → Float) (a k : ℕ) → (k ≡ a + 1 → ⊥) → splitRadii f a k ≡ f (old a k)
+pub radius-stood : (f : ℕ → Float) (a k : ℕ) → (k ≡ a + 1 → ⊥) → splitRadii f a k ≡ f (old a k)
 unfolding splitRadii
 radius-stood f a k q = rw (ne-eqb k (a + 1) q)
 
-module _ (d : Drawing) (s a : ℕ) (t : Float) (there : s < length (d .shapes))
-    (seg : isSegment (countOf (wordAt (d .shapes) s)) (closedOf (wordAt (d .shapes) s)) a ≡ true) (small : countOf (wordAt (d .shapes) s) ≤ 512) where
-  abbrev sh : List ℕ
-  sh = d .shapes
-
+-- ---- the shapes, once subpath s has an anchor more
+module _ (sh : List ℕ) (s a : ℕ) (there : s < length sh) (seg : isSegment (countOf (wordAt sh s)) (closedOf (wordAt sh s)) a ≡ true) (small : countOf (wordAt sh s) ≤ 512) where
   abbrev sh2 : List ℕ
-  sh2 = splitShapes (d .shapes) s
+  sh2 = splitShapes sh s
 
   abbrev first : ℕ
-  first = start (d .shapes) s
+  first = start sh s
 
   abbrev n : ℕ
-  n = countOf (wordAt (d .shapes) s)
+  n = countOf (wordAt sh s)
 
   from : a < n
   from = segment-in n (closedOf (wordAt sh s)) a seg
@@ -148,128 +127,193 @@ module _ (d : Drawing) (s a : ℕ) (t : Float) (there : s < length (d .shapes))
   pub split-stood : (k : ℕ) → k < total sh2 → old (first + a) k < total sh
   split-stood k l = old-below (total sh) (first + a) k (omega (arith, total-in sh s there, from)) (omega (arith, split-total))
 
+-- ---- a drawing with an anchor put in after anchor a of subpath s, where the ends of the segment that it parts may differ too: its anchors g and its radii q
+pub record PutIn (d : Drawing) (s a : ℕ) (g : ℕ → Anchor) (q : ℕ → Float) : Type 0 where
+  pub there : s < length (d .shapes)
+  pub seg : isSegment (countOf (wordAt (d .shapes) s)) (closedOf (wordAt (d .shapes) s)) a ≡ true
+  pub small : countOf (wordAt (d .shapes) s) ≤ 512
+  pub anchors : (k : ℕ) → (k ≡ segmentStart (d .shapes) s a → ⊥) → (k ≡ segmentStart (d .shapes) s a + 1 → ⊥) → (k ≡ shifted (segmentStart (d .shapes) s a) (segmentEnd (d .shapes) s a) → ⊥)
+      → g k ≡ d .anchor (old (segmentStart (d .shapes) s a) k)
+  pub radii : (k : ℕ) → (k ≡ segmentStart (d .shapes) s a + 1 → ⊥) → q k ≡ d .radius (old (segmentStart (d .shapes) s a) k)
+
+abbrev pub with-anchor : Drawing → ℕ → (ℕ → Anchor) → (ℕ → Float) → Drawing
+with-anchor d s g q = record { shapes = splitShapes (d .shapes) s; kind = d .kind; anchor = g; radius = q }
+
+module _ (d : Drawing) (s a : ℕ) (g : ℕ → Anchor) (q : ℕ → Float) (put : PutIn d s a g q) where
+  abbrev sh : List ℕ
+  sh = d .shapes
+
+  abbrev sh' : List ℕ
+  sh' = splitShapes (d .shapes) s
+
+  abbrev m : Drawing
+  m = with-anchor d s g q
+
+  abbrev lo : ℕ
+  lo = start (d .shapes) s
+
+  abbrev size : ℕ
+  size = countOf (wordAt (d .shapes) s)
+
+  there : s < length sh
+  there = put .there
+
+  small : size ≤ 512
+  small = put .small
+
+  inside : a < size
+  inside = from sh s a there (put .seg) small
+
+  count : countOf (wordAt sh' s) ≡ size + 1
+  count = split-count sh s a there (put .seg) small
+
+  closed : closedOf (wordAt sh' s) ≡ closedOf (wordAt sh s)
+  closed = split-closed sh s a there (put .seg) small
+
+  begins : start sh' s ≡ lo
+  begins = split-start sh s a there (put .seg) small
+
+  word-other : (r : ℕ) → (r ≡ s → ⊥) → wordAt sh' r ≡ wordAt sh r
+  word-other = word-r sh s a there (put .seg) small
+
   -- ---- the subpath itself: an anchor put in
-  pub split-inserted : Inserted (viewIn d s) (viewIn (splitAt d s a t) s) a
-  unfolding viewIn viewOf subAt splitAt segmentStart segmentEnd gap
-  split-inserted = record {
-    n = split-count;
-    from = from;
-    closed = split-closed;
+  put-inserted : Inserted (viewIn d s) (viewIn m s) a
+  unfolding viewIn viewOf subAt segmentStart segmentEnd gap
+  put-inserted = record {
+    n = count;
+    from = inside;
+    closed = closed;
     chords = refl;
-    anchors = λ j l e. rw split-start (far j l e);
-    radii = λ j l ne. rw split-start (radius-stood (d .radius) (first + a) (first + j) (λ q. ne (omega arith)) ∙ ap (d .radius) (old-in first a j));
+    anchors = λ j l e. rw begins (far j l e);
+    radii = λ j l ne. rw begins (put .radii (lo + j) (λ q. ne (omega arith)) ∙ ap (d .radius) (old-in lo a j));
     kinds = λ j l ne. refl;
   }
     where
-      far : (j : ℕ) → j < countOf (wordAt sh2 s) → near 1 (countOf (wordAt sh2 s)) (closedOf (wordAt sh2 s)) (a + 1) j ≡ false
-          → splitAnchors (d .anchor) (first + a) (first + next n a) t (first + j) ≡ d .anchor (first + old a j)
+      far : (j : ℕ) → j < countOf (wordAt sh' s) → near 1 (countOf (wordAt sh' s)) (closedOf (wordAt sh' s)) (a + 1) j ≡ false
+          → g (lo + j) ≡ d .anchor (lo + old a j)
       far j l e =
-          let f = far-of 1 (countOf (wordAt sh2 s)) (closedOf (wordAt sh2 s)) (a + 1) j e in
-          let g = f .straight in
-          anchor-stood (d .anchor) (first + a) (first + next n a) t (first + j) (λ q. omega arith) (λ q. omega arith) (last f) ∙ ap (d .anchor) (old-in first a j)
+          let f = far-of 1 (countOf (wordAt sh' s)) (closedOf (wordAt sh' s)) (a + 1) j e in
+          let y = f .straight in
+          put .anchors (lo + j) (λ q. omega arith) (λ q. omega arith) (last f) ∙ ap (d .anchor) (old-in lo a j)
         where
-          last : Far 1 (countOf (wordAt sh2 s)) (closedOf (wordAt sh2 s)) (a + 1) j → first + j ≡ shifted (first + a) (first + next n a) → ⊥
+          last : Far 1 (countOf (wordAt sh' s)) (closedOf (wordAt sh' s)) (a + 1) j → lo + j ≡ shifted (lo + a) (lo + next size a) → ⊥
           last f q =
               ⊎-elim
-              (λ (h : a + 1 < n).
-              let e : next n a ≡ a + 1 = next-in n a h in
-              let z = shifted-high (first + a) (first + next n a) (omega arith) in
-              let g = f .straight in
+              (λ (h : a + 1 < size).
+              let e : next size a ≡ a + 1 = next-in size a h in
+              let z = shifted-high (lo + a) (lo + next size a) (omega arith) in
+              let y = f .straight in
               omega arith)
-              (λ (h : (closedOf (wordAt sh s) ≡ true) × (a + 1 ≡ n)).
+              (λ (h : (closedOf (wordAt sh s) ≡ true) × (a + 1 ≡ size)).
               let y = h .1 in
-              let e : next n a ≡ 0 = next-round n a (omega arith) in
-              let z = shifted-low (first + a) (first + next n a) (omega arith) in
-              let g = f .round (split-closed ∙ h .0) in
-              let w = split-count in
+              let e : next size a ≡ 0 = next-round size a (omega arith) in
+              let z = shifted-low (lo + a) (lo + next size a) (omega arith) in
+              let x = f .round (closed ∙ h .0) in
+              let w = count in
               omega arith)
-              (segment-cases n (closedOf (wordAt sh s)) a seg)
+              (segment-cases size (closedOf (wordAt sh s)) a (put .seg))
 
-  at-n : (j : ℕ) → j < n + 1 → j < viewIn (splitAt d s a t) s .n
-  unfolding viewIn viewOf subAt splitAt
-  at-n j l = omega (arith, split-count)
+  at-n : (j : ℕ) → j < size + 1 → j < viewIn m s .n
+  unfolding viewIn viewOf subAt
+  at-n j l = omega (arith, count)
 
-  at-n-first : (k : ℕ) → k < first + (n + 1) → k < first + viewIn (splitAt d s a t) s .n
-  unfolding viewIn viewOf subAt splitAt
-  at-n-first k l = omega (arith, split-count)
+  at-n-lo : (k : ℕ) → k < lo + (size + 1) → k < lo + viewIn m s .n
+  unfolding viewIn viewOf subAt
+  at-n-lo k l = omega (arith, count)
 
-  cut-here : (k : ℕ) → In sh2 k s → reached (viewIn (splitAt d s a t) s) first 4 (a + 1) k ≡ false → placesOf (splitAt d s a t) k ≡ placesOf d (old (first + a) k)
-  unfolding splitAt
+  cut-here : (k : ℕ) → In sh' k s → reached (viewIn m s) lo 4 (a + 1) k ≡ false → placesOf m k ≡ placesOf d (old (lo + a) k)
   cut-here k i e =
-      let m = splitAt d s a t in
-      let st = split-start in
-      let c = split-count in
-      let lo : first ≤ k = omega (arith, i .low) in
-      let hi : k < first + (n + 1) = omega (arith, i .high) in
-      let j = k - first in
-      let ob = old-below n a j from (omega arith) in
-      let z : old (first + a) k ≡ first + old a j = ap (old (first + a)) (omega arith) ∙ old-in first a j in
+      let st = begins in
+      let c = count in
+      let above : lo ≤ k = omega (arith, i .low) in
+      let hi : k < lo + (size + 1) = omega (arith, i .high) in
+      let j = k - lo in
+      let ob = old-below size a j inside (omega arith) in
+      let z : old (lo + a) k ≡ lo + old a j = ap (old (lo + a)) (omega arith) ∙ old-in lo a j in
       place-in m k s i
       ∙ ap (λ x. placeAt (viewIn m s) (k - x)) st
-      ∙ split-locality (viewIn d s) (viewIn m s) a split-inserted j (at-n j (omega arith)) (sym (reached-here (viewIn m s) first 4 (a + 1) k lo (at-n-first k hi)) ∙ e)
+      ∙ split-locality (viewIn d s) (viewIn m s) a put-inserted j (at-n j (omega arith)) (sym (reached-here (viewIn m s) lo 4 (a + 1) k above (at-n-lo k hi)) ∙ e)
       ∙ ap (placeAt (viewIn d s)) (omega arith)
-      ∙ sym (place-in d (old (first + a) k) s (record { there = there; low = omega arith; high = omega arith }))
+      ∙ sym (place-in d (old (lo + a) k) s (record { there = there; low = omega arith; high = omega arith }))
 
   -- ---- the subpaths before and after it
-  cut-before : (k r : ℕ) → In sh2 k r → r < s → placesOf (splitAt d s a t) k ≡ placesOf d (old (first + a) k)
-  unfolding splitAt segmentStart segmentEnd splitShapes viewIn viewOf subAt
+  cut-before : (k r : ℕ) → In sh' k r → r < s → placesOf m k ≡ placesOf d (old (lo + a) k)
+  unfolding segmentStart segmentEnd splitShapes viewIn viewOf subAt
   cut-before k r i l =
-      let st : start sh2 r ≡ start sh r = start-le (wordAt sh s + 1) sh s r (omega arith) in
-      let w : wordAt sh2 r ≡ wordAt sh r = word-r r (λ e. omega arith) in
-      let z : countOf (wordAt sh2 r) ≡ countOf (wordAt sh r) = ap countOf w in
-      let f : start sh r + countOf (wordAt sh r) ≤ first = sub-before sh r s there l in
-      let eb = end-in first n a from in
-      let o : old (first + a) k ≡ k = old-low (first + a) k (omega (arith, i .high)) in
-      let below : (j : ℕ) → j < countOf (wordAt sh2 r) → old (first + a) (start sh2 r + j) ≡ start sh r + j = λ j h. old-low (first + a) (start sh2 r + j) (omega arith) ∙ omega arith in
-      place-in (splitAt d s a t) k r i
-      ∙ like-places (viewIn d r) (viewIn (splitAt d s a t) r) (record {
+      let st : start sh' r ≡ start sh r = start-le (wordAt sh s + 1) sh s r (omega arith) in
+      let w : wordAt sh' r ≡ wordAt sh r = word-other r (λ e. omega arith) in
+      let z : countOf (wordAt sh' r) ≡ countOf (wordAt sh r) = ap countOf w in
+      let f : start sh r + countOf (wordAt sh r) ≤ lo = sub-before sh r s there l in
+      let eb = end-in lo size a inside in
+      let o : old (lo + a) k ≡ k = old-low (lo + a) k (omega (arith, i .high)) in
+      let below : (j : ℕ) → j < countOf (wordAt sh' r) → old (lo + a) (start sh' r + j) ≡ start sh r + j = λ j h. old-low (lo + a) (start sh' r + j) (omega arith) ∙ omega arith in
+      place-in m k r i
+      ∙ like-places (viewIn d r) (viewIn m r) (record {
         n = z;
         closed = ap closedOf w;
         chords = refl;
-        anchors = λ j h. anchor-stood (d .anchor) (first + a) (first + next n a) t (start sh2 r + j) (λ q. omega arith) (λ q. omega arith) (λ q. omega arith) ∙ ap (d .anchor) (below j h);
-        radii = λ j h. radius-stood (d .radius) (first + a) (start sh2 r + j) (λ q. omega arith) ∙ ap (d .radius) (below j h);
+        anchors = λ j h. put .anchors (start sh' r + j) (λ q. omega arith) (λ q. omega arith) (λ q. omega arith) ∙ ap (d .anchor) (below j h);
+        radii = λ j h. put .radii (start sh' r + j) (λ q. omega arith) ∙ ap (d .radius) (below j h);
         kinds = λ j h. refl;
-      }) (k - start sh2 r) (omega (arith, i .low, i .high))
+      }) (k - start sh' r) (omega (arith, i .low, i .high))
       ∙ ap (λ x. placeAt (viewIn d r) (k - x)) st
       ∙ sym (place-in d k r (record { there = omega (arith, l, there); low = omega (arith, i .low); high = omega (arith, i .high) }))
       ∙ ap (placesOf d) (sym o)
 
-  cut-after : (k r : ℕ) → In sh2 k r → s < r → placesOf (splitAt d s a t) k ≡ placesOf d (old (first + a) k)
-  unfolding splitAt segmentStart segmentEnd splitShapes viewIn viewOf subAt
+  cut-after : (k r : ℕ) → In sh' k r → s < r → placesOf m k ≡ placesOf d (old (lo + a) k)
+  unfolding segmentStart segmentEnd splitShapes viewIn viewOf subAt
   cut-after k r i l =
-      let st : start sh2 r ≡ start sh r + 1 = start-gt (wordAt sh s + 1) sh s r there l (count-next (wordAt sh s) small) in
-      let w : wordAt sh2 r ≡ wordAt sh r = word-r r (λ e. omega arith) in
-      let z : countOf (wordAt sh2 r) ≡ countOf (wordAt sh r) = ap countOf w in
-      let len = split-length in
+      let st : start sh' r ≡ start sh r + 1 = start-gt (wordAt sh s + 1) sh s r there l (count-next (wordAt sh s) small) in
+      let w : wordAt sh' r ≡ wordAt sh r = word-other r (λ e. omega arith) in
+      let z : countOf (wordAt sh' r) ≡ countOf (wordAt sh r) = ap countOf w in
+      let len = split-length sh s a there (put .seg) small in
       let rl : r < length sh = omega (arith, i .there) in
-      let f : first + n ≤ start sh r = sub-before sh s r rl l in
-      let g = from in
-      let eb = end-in first n a from in
-      let o : old (first + a) k ≡ k - 1 = old-high (first + a) k (omega (arith, i .low)) in
-      let above : (j : ℕ) → j < countOf (wordAt sh2 r) → old (first + a) (start sh2 r + j) ≡ start sh r + j = λ j h. old-high (first + a) (start sh2 r + j) (omega arith) ∙ omega arith in
-      place-in (splitAt d s a t) k r i
-      ∙ like-places (viewIn d r) (viewIn (splitAt d s a t) r) (record {
+      let f : lo + size ≤ start sh r = sub-before sh s r rl l in
+      let y = inside in
+      let eb = end-in lo size a inside in
+      let o : old (lo + a) k ≡ k - 1 = old-high (lo + a) k (omega (arith, i .low)) in
+      let above : (j : ℕ) → j < countOf (wordAt sh' r) → old (lo + a) (start sh' r + j) ≡ start sh r + j = λ j h. old-high (lo + a) (start sh' r + j) (omega arith) ∙ omega arith in
+      place-in m k r i
+      ∙ like-places (viewIn d r) (viewIn m r) (record {
         n = z;
         closed = ap closedOf w;
         chords = refl;
-        anchors = λ j h. anchor-stood (d .anchor) (first + a) (first + next n a) t (start sh2 r + j) (λ q. omega arith) (λ q. omega arith) (λ q. omega arith) ∙ ap (d .anchor) (above j h);
-        radii = λ j h. radius-stood (d .radius) (first + a) (start sh2 r + j) (λ q. omega arith) ∙ ap (d .radius) (above j h);
+        anchors = λ j h. put .anchors (start sh' r + j) (λ q. omega arith) (λ q. omega arith) (λ q. omega arith) ∙ ap (d .anchor) (above j h);
+        radii = λ j h. put .radii (start sh' r + j) (λ q. omega arith) ∙ ap (d .radius) (above j h);
         kinds = λ j h. refl;
-      }) (k - start sh2 r) (omega (arith, i .low, i .high))
-      ∙ ap (placeAt (viewIn d r)) (let lo = i .low in omega arith)
+      }) (k - start sh' r) (omega (arith, i .low, i .high))
+      ∙ ap (placeAt (viewIn d r)) (let il = i .low in omega arith)
       ∙ sym (place-in d (k - 1) r (record { there = rl; low = omega (arith, i .low); high = omega (arith, i .low, i .high) }))
       ∙ ap (placesOf d) (sym o)
 
-  pub split-kept : (k : ℕ) → k < total sh2 → reached (viewIn (splitAt d s a t) s) first 4 (a + 1) k ≡ false → placesOf (splitAt d s a t) k ≡ placesOf d (old (first + a) k)
-  split-kept k l e =
-      let i : In sh2 k (subOf sh2 k) = sub-in sh2 k l in
+  pub put-kept : (k : ℕ) → k < total sh' → reached (viewIn m s) lo 4 (a + 1) k ≡ false → placesOf m k ≡ placesOf d (old (lo + a) k)
+  put-kept k l e =
+      let i : In sh' k (subOf sh' k) = sub-in sh' k l in
       ⊎-elim
       (λ q. cut-here k (rw q at i) e)
       (λ ne. ⊎-elim
-      (λ (h : subOf sh2 k ≤ s). cut-before k (subOf sh2 k) i (lt-of (subOf sh2 k) s h ne))
-      (λ (h : s < subOf sh2 k). cut-after k (subOf sh2 k) i h)
-      (order (subOf sh2 k) s))
-      (same (subOf sh2 k) s)
+      (λ (h : subOf sh' k ≤ s). cut-before k (subOf sh' k) i (lt-of (subOf sh' k) s h ne))
+      (λ (h : s < subOf sh' k). cut-after k (subOf sh' k) i h)
+      (order (subOf sh' k) s))
+      (same (subOf sh' k) s)
     where
       lt-of : (x y : ℕ) → x ≤ y → (x ≡ y → ⊥) → x < y
       lt-of x y h ne = ⊎-elim (λ (g : y ≤ x). absurd (ne (omega arith))) (λ (g : x < y). g) (order y x)
+
+-- ---- a split
+module _ (d : Drawing) (s a : ℕ) (t : Float) (there : s < length (d .shapes))
+    (seg : isSegment (countOf (wordAt (d .shapes) s)) (closedOf (wordAt (d .shapes) s)) a ≡ true) (small : countOf (wordAt (d .shapes) s) ≤ 512) where
+  split-put : PutIn d s a (splitAt d s a t .anchor) (splitAt d s a t .radius)
+  unfolding splitAt
+  split-put = record {
+    there = there;
+    seg = seg;
+    small = small;
+    anchors = anchor-stood (d .anchor) (segmentStart (d .shapes) s a) (segmentEnd (d .shapes) s a) t;
+    radii = radius-stood (d .radius) (segmentStart (d .shapes) s a);
+  }
+
+  pub split-kept : (k : ℕ) → k < total (splitShapes (d .shapes) s) → reached (viewIn (splitAt d s a t) s) (start (d .shapes) s) 4 (a + 1) k ≡ false
+      → placesOf (splitAt d s a t) k ≡ placesOf d (old (start (d .shapes) s + a) k)
+  unfolding splitAt
+  split-kept = put-kept d s a (splitAt d s a t .anchor) (splitAt d s a t .radius) split-put

@@ -1,37 +1,35 @@
 -- One call: its answer is the model's, and the buffers then hold the model's next drawing and its cut. Assumes nothing.
 use mathlib.Core.Path.{_≡_, refl, sym, ap, subst, _∙_}
-use mathlib.Core.Bool.{Bool, true, false, cond}
+use mathlib.Core.Bool.{true}
 use mathlib.Core.List.{List}
-use Prim.Native.Nat.{ℕ, _+_, _*_, _/_, _%_, _≤_, _<_}
+use Prim.Native.Nat.{ℕ, _+_, _*_, _≤_}
 use native.Mathlib.Omega.{arith}
 use lib.Dec.{leb}
-use lib.ListN.{length, getD, length-set}
+use lib.ListN.{length, length-set}
 use lib.Ieee.{Float, nan}
 use borrow.Author.Tests.{leb-true}
 use Rattle.views.specs.View.{entry}
 use Rattle.views.proofs.Bools.{and-right}
 use Rattle.views.specs.Search.{count}
-use Rattle.refusal.specs.Order.{holds, Verdict, accepted, refused}
+use Rattle.refusal.specs.Order.{Verdict, accepted, refused}
 use Rattle.refusal.proofs.Verdicts.{holds-says, accepted-says}
 use Rattle.path.specs.Shape.{total}
-use Rattle.path.specs.Flat.{anchorAt, anchorNumbers}
+use Rattle.path.specs.Flat.{anchorAt}
 use Rattle.path.proofs.Limits.{GoodBelow}
 use Rattle.call.specs.Tests.{places}
-use Rattle.cut.specs.declared.places.Place.{Place}
-use Rattle.cut.specs.Places.{placeNumbers}
-use Rattle.cut.specs.Rows.{flagOf}
 use Rattle.session.specs.Drawing.{Drawing, Lent, drawn}
-use Rattle.cache.specs.Cache.{cachedNumbers, cachedFlags, cachedIn}
+use Rattle.cache.specs.Cache.{cachedIn}
 use Rattle.edit.specs.Split.{splitShapes}
 use Rattle.session.specs.Edits.{Call, move, setRadius, split, Edit, editOf, moved, resized, splitAt, placesOf}
-use Rattle.session.specs.Calls.{listsFit, roomIn, editAnswer, numbersAfter, flagsAfter, editedLists, listsAfter, editVerdict, callVerdict, callAnswer, callLists}
+use Rattle.session.specs.Calls.{listsFit, roomIn, editAnswer, editedLists, listsAfter, editVerdict, callVerdict, callAnswer, callLists}
 use Rattle.session.specs.Model.{lengthsOf, longFor, smallPath, wholeLimit, modelVerdict, recutCount, modelAnswer, drawingAfter, modelNext}
 use Rattle.session.specs.Session.{Carried, back, returned}
 use Rattle.session.specs.Demand.{Holds}
 use Rattle.session.proofs.Judging.{places-say, places-then}
-use Rattle.session.proofs.Effects.{Faithful, faithful, draw, Alike, places-alike, made-alike, made-places, shapes-same, count-same}
+use Rattle.session.proofs.Effects.{draw, shapes-same, count-same}
 use Rattle.session.proofs.Counts.{recut-count}
-use Rattle.session.proofs.Lents.{Long, long-says, fits-same, room-same, anchor-same, back-kept, back-long, back-written, back-written-long, back-anchor}
+use Rattle.session.proofs.Lents.{Long, long-says, fits-same, room-same, anchor-same, back-kept, back-long}
+use Rattle.session.proofs.Twins.{lent-alike, call-twin, edited-held}
 use Rattle.session.proofs.Verdicts.{call-model}
 
 -- a drawing of a path's size whose plain cut is within the limit
@@ -56,22 +54,6 @@ still b l m h c =
       numbers = λ k i kl il. back-kept nan (l .numbers) (b .numbers) (k * 12 + i) (c .numbers (k * 12 + i) (omega arith)) ∙ h .numbers k i kl il;
       flags = λ k kl. back-kept 0 (l .flags) (b .flags) k (c .flags k (omega arith)) ∙ h .flags k kl;
     }
-
--- ---- what the cache holds of the places f, number by number
-pub number-of : (f : ℕ → Place) (k i : ℕ) → i < 12 → cachedNumbers f (k * 12 + i) ≡ entry (placeNumbers (f k)) i
-unfolding cachedNumbers
-number-of f k i l =
-    let x : (k * 12 + i) / 12 ≡ k = omega arith in
-    let y : (k * 12 + i) % 12 ≡ i = omega arith in
-    rw (x, y)
-
-pub number-after : (e : Edit) (xs : List Float) (k i : ℕ) → i < 12
-    → numbersAfter e xs (k * 12 + i) ≡ cond (e .recuts k) (entry (placeNumbers (placesOf (e .made) k)) i) (entry xs (e .stood k * 12 + i))
-unfolding numbersAfter
-number-after e xs k i l =
-    let x : (k * 12 + i) / 12 ≡ k = omega arith in
-    let y : (k * 12 + i) % 12 ≡ i = omega arith in
-    rw (x, y, number-of (placesOf (e .made)) k i l)
 
 -- ---- what every edit keeps
 pub kind-kept : (m : Drawing) (c : Call) → editOf m c .made .kind ≡ m .kind
@@ -113,30 +95,8 @@ module _ (b : Lent) (m : Drawing) (an ra nu : List Float) (fl : List ℕ) (c : C
     long : listsFit l ≡ true → Long (lengthsOf l) n
     long h = long-says (lengthsOf l) n (and-right (smallPath (m .shapes)) (longFor (lengthsOf l) n) (sym (fits-same l) ∙ h))
 
-    -- lists long enough hold the drawing and the cache
-    alike : Long (lengthsOf l) n → Alike (m .shapes) (anchorAt an) (m .anchor) (entry ra) (m .radius)
-    unfolding lengthsOf
-    alike g =
-        let q : total (b .shapes) ≡ n = ap total (held .shapes) in
-        record {
-          anchors = λ k kl. anchor-same an (b .anchors) k (λ j jl. carried .anchors j (omega arith) (omega (arith, g .anchors))) ∙ held .anchors k kl;
-          radii = λ k kl. carried .radii k (omega arith) (omega (arith, g .radii)) ∙ held .radii k kl;
-        }
-
-    held-number : Long (lengthsOf l) n → (k i : ℕ) → k < n → i < 12 → entry nu (k * 12 + i) ≡ entry (placeNumbers (placesOf m k)) i
-    unfolding lengthsOf
-    held-number g k i kl il =
-        let q : total (b .shapes) ≡ n = ap total (held .shapes) in
-        carried .numbers (k * 12 + i) (omega arith) (omega (arith, g .numbers)) ∙ held .numbers k i kl il
-
-    held-flag : Long (lengthsOf l) n → (k : ℕ) → k < n → getD fl k 0 ≡ flagOf (placesOf m k .cut)
-    unfolding lengthsOf
-    held-flag g k kl =
-        let q : total (b .shapes) ≡ n = ap total (held .shapes) in
-        carried .flags k (omega arith) (omega (arith, g .flags)) ∙ held .flags k kl
-
     judged : callVerdict l (m .kind) c ≡ modelVerdict m (lengthsOf l) c
-    judged = call-model (m .shapes) (m .kind) an ra nu fl (m .anchor) (m .radius) c (λ h. alike (long h)) (fine .places)
+    judged = call-model (m .shapes) (m .kind) an ra nu fl (m .anchor) (m .radius) c (λ h. lent-alike b m an ra nu fl held carried (long h)) (fine .places)
 
     -- ---- an accepted call
     module _ (yes : callVerdict l (m .kind) c ≡ accepted) where
@@ -152,55 +112,10 @@ module _ (b : Lent) (m : Drawing) (an ra nu : List Float) (fl : List ℕ) (c : C
       unfolding callVerdict editVerdict drawn
       room = long-says (lengthsOf l) (total (e .made .shapes)) (sym (room-same l (total (e .made .shapes))) ∙ holds-says (roomIn l (total (e .made .shapes))) 0 (accepted-says _ _ _ _ _ _ yes .output))
 
-      like : Alike (m .shapes) (anchorAt an) (m .anchor) (entry ra) (m .radius)
-      like = alike (long fits)
-
-      faith : Faithful d e
-      faith = faithful d c (fine .few) known
-
-      same-place : (k : ℕ) → k < total (e .made .shapes) → placesOf (e .made) k ≡ placesOf (f .made) k
-      same-place = made-places (m .shapes) (m .kind) (anchorAt an) (m .anchor) (entry ra) (m .radius) like c (fine .few) known
-
-      -- a place that is not recut held its cut already
-      stood : (k : ℕ) → k < total (e .made .shapes) → e .recuts k ≡ false → placesOf m (e .stood k) ≡ placesOf (f .made) k
-      stood k kl w =
-          sym (places-alike (m .shapes) (m .kind) (anchorAt an) (m .anchor) (entry ra) (m .radius) like (e .stood k) (faith .stood-in k kl))
-          ∙ sym (faith .cut-kept k kl w)
-          ∙ same-place k kl
-
-      new-number : (k i : ℕ) → k < total (e .made .shapes) → i < 12 → numbersAfter e nu (k * 12 + i) ≡ entry (placeNumbers (placesOf (f .made) k)) i
-      new-number k i kl il = number-after e nu k i il ∙ go (e .recuts k) refl
-        where
-          go : (t : Bool) → e .recuts k ≡ t → cond t (entry (placeNumbers (placesOf (e .made) k)) i) (entry nu (e .stood k * 12 + i)) ≡ entry (placeNumbers (placesOf (f .made) k)) i
-          go true w = ap (λ p. entry (placeNumbers p) i) (same-place k kl)
-          go false w = held-number (long fits) (e .stood k) i (faith .stood-in k kl) il ∙ ap (λ p. entry (placeNumbers p) i) (stood k kl w)
-
-      new-flag : (k : ℕ) → k < total (e .made .shapes) → flagsAfter e fl k ≡ flagOf (placesOf (f .made) k .cut)
-      unfolding flagsAfter cachedFlags
-      new-flag k kl = go (e .recuts k) refl
-        where
-          go : (t : Bool) → e .recuts k ≡ t → cond t (flagOf (placesOf (e .made) k .cut)) (getD fl (e .stood k) 0) ≡ flagOf (placesOf (f .made) k .cut)
-          go true w = ap (λ (p : Place). flagOf (p .cut)) (same-place k kl)
-          go false w = held-flag (long fits) (e .stood k) (faith .stood-in k kl) ∙ ap (λ (p : Place). flagOf (p .cut)) (stood k kl w)
-
       next-held : Holds (returned (editedLists l e) b) (f .made)
-      unfolding returned editedLists lengthsOf
       next-held =
-          let q : e .made .shapes ≡ f .made .shapes = shapes-same (m .shapes) (m .kind) (anchorAt an) (m .anchor) (entry ra) (m .radius) c in
-          let z : total (e .made .shapes) ≡ total (f .made .shapes) = ap total q in
-          let g = made-alike (m .shapes) (m .kind) (anchorAt an) (m .anchor) (entry ra) (m .radius) like c (fine .few) known in
-          let y = total (e .made .shapes) in
-          record {
-            shapes = q;
-            anchors-long = rw (← z) (back-written-long (y * 6) (anchorNumbers (e .made .anchor)) an (b .anchors) (y * 6) (room .anchors));
-            radii-long = rw (← z) (back-written-long y (e .made .radius) ra (b .radii) y (room .radii));
-            numbers-long = rw (← z) (back-written-long (y * 12) (numbersAfter e nu) nu (b .numbers) (y * 12) (room .numbers));
-            flags-long = rw (← z) (back-written-long y (flagsAfter e fl) fl (b .flags) y (room .flags));
-            anchors = λ k kl. back-anchor y (e .made .anchor) an (b .anchors) (room .anchors) k (omega arith) ∙ g .anchors k (omega arith);
-            radii = λ k kl. back-written nan y (e .made .radius) ra (b .radii) (room .radii) k (omega arith) ∙ g .radii k (omega arith);
-            numbers = λ k i kl il. back-written nan (y * 12) (numbersAfter e nu) nu (b .numbers) (room .numbers) (k * 12 + i) (omega arith) ∙ new-number k i (omega arith) il;
-            flags = λ k kl. back-written 0 y (flagsAfter e fl) fl (b .flags) (room .flags) k (omega arith) ∙ new-flag k (omega arith);
-          }
+          let like = lent-alike b m an ra nu fl held carried (long fits) in
+          edited-held b m an ra nu fl held carried (long fits) e f (call-twin (m .shapes) (m .kind) (anchorAt an) (m .anchor) (entry ra) (m .radius) like c (fine .few) known) room
 
       answer-count : count (e .recuts) (total (e .made .shapes)) ≡ recutCount m c
       answer-count = recut-count d c (fine .few) known ∙ count-same (m .shapes) (m .kind) (anchorAt an) (m .anchor) (entry ra) (m .radius) c

@@ -11,7 +11,7 @@ use Rattle.path.proofs.Anchors.{anchor-good}
 use Rattle.views.specs.View.{entry}
 use Rattle.views.proofs.Bools.{and-left, and-right}
 use Rattle.real.specs.Limit.{inLimit}
-use Rattle.refusal.specs.Order.{passes, holds, accepted, verdict}
+use Rattle.refusal.specs.Order.{passes, holds}
 use Rattle.refusal.proofs.Verdicts.{holds-says}
 use Rattle.path.specs.declared.anchor.Anchor.{Anchor}
 use Rattle.path.specs.Shape.{total}

@@ -5,3 +5,6 @@ pub mod Model
 pub mod Session
 pub mod Outline
 pub mod Demand
+pub mod Commute
+pub mod Opened
+pub mod Undo

@@ -1,16 +1,16 @@
 -- Laws of lists as functions of the index: tables, a store, a loop that fills, a list whose first entries were written. Assumes nothing.
-use mathlib.Core.Path.{_≡_, refl, sym, ap, _∙_}
+use mathlib.Core.Path.{_≡_, refl, sym, ap, ap₂, _∙_}
 use mathlib.Core.Logic.{_⊎_, inl, inr, ⊎-elim}
 use mathlib.Core.Bool.{Bool, true, false, cond}
 use mathlib.Core.List.{List, [], _∷_, _++_}
-use Prim.Native.Nat.{ℕ, zero, suc, _+_, _≤_, _<_, zero-le, suc-le-suc}
-use native.Mathlib.Nat.{not-suc-le-zero, le-of-suc-le-suc}
+use Prim.Native.Nat.{ℕ, zero, suc, _+_, _-_, _≤_, _<_, zero-le, suc-le-suc}
+use native.Mathlib.Nat.{sub-zero, not-suc-le-zero, le-of-suc-le-suc}
 use native.Mathlib.Omega.{arith}
-use lib.Dec.{leb, ltb, eqb}
+use lib.Dec.{leb, eqb}
 use lib.Arith.{lt-of-le-ne}
-use lib.ListN.{length, getD, set}
+use lib.ListN.{length, getD, set, take, drop, take-append-drop}
 use lib.Seq.{ext-getD, getD-set-same, getD-set-other}
-use borrow.Author.Tests.{leb-true, leb-false, eqb-true, eqb-false}
+use borrow.Author.Tests.{leb-true, leb-false, eqb-true, eqb-false, eq-eqb, ne-eqb}
 use Rattle.views.specs.View.{tabulate, overwrite}
 
 -- ---- cases
@@ -56,6 +56,24 @@ unfolding tabulate
 tabulate-more zero f = refl
 tabulate-more (suc n) f = ap (λ l. f zero ∷ l) (tabulate-more n (λ i. f (suc i)))
 
+-- its first entries, the others, and both
+pub take-tabulate : {A : Type 0} (m n : ℕ) (f : ℕ → A) → m ≤ n → take m (tabulate n f) ≡ tabulate m f
+unfolding tabulate
+take-tabulate zero n f h = refl
+take-tabulate (suc m) zero f h = absurd (omega arith)
+take-tabulate (suc m) (suc n) f h = ap (λ l. f zero ∷ l) (take-tabulate m n (λ i. f (suc i)) (omega arith))
+
+pub drop-tabulate : {A : Type 0} (m n : ℕ) (f : ℕ → A) → drop m (tabulate n f) ≡ tabulate (n - m) (λ i. f (m + i))
+unfolding tabulate
+drop-tabulate zero n f = rw (sub-zero) (tabulate-cong n _ _ (λ i h. ap f (omega arith)))
+drop-tabulate (suc m) zero f = let e : 0 ≡ 0 - suc m = omega arith in ap (λ k. tabulate k (λ i. f (suc m + i))) e
+drop-tabulate (suc m) (suc n) f =
+    let e : n - m ≡ suc n - suc m = omega arith in
+    drop-tabulate m n (λ i. f (suc i)) ∙ ap (λ k. tabulate k (λ i. f (suc (m + i)))) e ∙ tabulate-cong (suc n - suc m) _ _ (λ i h. ap f (omega arith))
+
+pub tabulate-parts : {A : Type 0} (m n : ℕ) (f : ℕ → A) → m ≤ n → tabulate m f ++ tabulate (n - m) (λ i. f (m + i)) ≡ tabulate n f
+tabulate-parts m n f h = ap₂ _++_ (sym (take-tabulate m n f h)) (sym (drop-tabulate m n f)) ∙ take-append-drop m (tabulate n f)
+
 module _ {A : Type 0} (d : A) (xs : List A) (k : ℕ) (v : A) where
   -- ---- a store: the view changes at one index
   pub at-set : (g : ℕ → A) → k < length xs → v ≡ g k → ((i : ℕ) → (i ≡ k → ⊥) → getD xs i d ≡ g i) → (i : ℕ) → getD (set xs k v) i d ≡ g i
@@ -64,6 +82,9 @@ module _ {A : Type 0} (d : A) (xs : List A) (k : ℕ) (v : A) where
       (λ e. rw e (getD-set-same xs k v d h ∙ at))
       (λ ne. getD-set-other xs k i v d ne ∙ off i ne)
       (same i k)
+
+  pub set-at : k < length xs → (i : ℕ) → getD (set xs k v) i d ≡ cond (eqb i k) v (getD xs i d)
+  set-at h = at-set (λ i. cond (eqb i k) v (getD xs i d)) h (rw (eq-eqb k k refl)) (λ i ne. rw (ne-eqb i k ne))
 
   -- ---- a loop that fills from the front: one store more, below k and from k on
   pub fill-more : (f : ℕ → A) → k < length xs → ((i : ℕ) → i < k → getD xs i d ≡ f i) → v ≡ f k → (i : ℕ) → i < k + 1 → getD (set xs k v) i d ≡ f i
@@ -109,3 +130,13 @@ unfolding overwrite
 overwrite-cong n f g [] h = refl
 overwrite-cong zero f g (x ∷ xs) h = refl
 overwrite-cong (suc n) f g (x ∷ xs) h = rw (h zero (suc-le-suc zero-le), overwrite-cong n (λ i. f (suc i)) (λ i. g (suc i)) xs (λ i l. h (suc i) (suc-le-suc l)))
+
+-- written twice, the second time stays; written with what it has, it stays
+pub overwrite-twice : {A : Type 0} (n : ℕ) (f g : ℕ → A) (xs : List A) → overwrite n f (overwrite n g xs) ≡ overwrite n f xs
+unfolding overwrite
+overwrite-twice n f g [] = refl
+overwrite-twice zero f g (x ∷ xs) = refl
+overwrite-twice (suc n) f g (x ∷ xs) = ap (λ l. f zero ∷ l) (overwrite-twice n (λ i. f (suc i)) (λ i. g (suc i)) xs)
+
+pub overwrite-same : {A : Type 0} (d : A) (xs : List A) (n : ℕ) (f : ℕ → A) → ((i : ℕ) → i < n → getD xs i d ≡ f i) → overwrite n f xs ≡ xs
+overwrite-same d xs n f h = sym (as-overwrite d xs xs n f refl h (λ i l. refl))

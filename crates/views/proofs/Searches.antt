@@ -124,3 +124,14 @@ count-idle p n (suc d) h =
     count-idle p n d (λ j l m. h j l (omega arith))
     ∙ count-same p (n + d) (h (n + d) (omega arith) (omega arith))
     ∙ ap (count p) (omega arith)
+
+-- a count in two parts
+pub count-add : (p : ℕ → Bool) (a b : ℕ) → count p (a + b) ≡ count p a + count (λ i. p (a + i)) b
+count-add p a zero = rw (add-zero, count-none (λ i. p (a + i)) 0 (λ k l. absurd (omega arith)), add-zero)
+count-add p a (suc b) =
+    let x : a + suc b ≡ a + b + 1 = omega arith in
+    rw (x, ← add-one b) (step (p (a + b)) refl (count-add p a b))
+  where
+    step : (t : Bool) → p (a + b) ≡ t → count p (a + b) ≡ count p a + count (λ i. p (a + i)) b → count p (a + b + 1) ≡ count p a + count (λ i. p (a + i)) (b + 1)
+    step true e h = omega (arith, count-more p (a + b) e, count-more (λ i. p (a + i)) b e)
+    step false e h = omega (arith, count-same p (a + b) e, count-same (λ i. p (a + i)) b e)

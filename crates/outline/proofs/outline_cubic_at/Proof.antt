@@ -1,5 +1,5 @@
 -- `outline::outline_cubic_at` meets its contract. Assumes nothing.
-use mathlib.Core.Path.{refl, ap, _∙_}
+use mathlib.Core.Path.{refl}
 use borrow.Author.Needs.{needs}
 use Rattle.answers.specs.Answers.{pointCode, pointWords, pointLeft}
 use Rattle.outline.proofs.outline_cubic_at.Statement.{statement}

@@ -1,5 +1,5 @@
 -- `outline::outline_len` meets its contract. Assumes nothing.
-use mathlib.Core.Path.{refl, ap, _∙_}
+use mathlib.Core.Path.{refl}
 use borrow.Author.Needs.{needs}
 use Rattle.answers.specs.Answers.{numberCode, numberWords, numberLeft}
 use Rattle.outline.proofs.outline_len.Statement.{statement}

@@ -1,5 +1,5 @@
 -- `answers::telling::corners_told` meets its contract. Assumes nothing.
-use mathlib.Core.Path.{refl, ap, _∙_}
+use mathlib.Core.Path.{refl}
 use borrow.Author.Needs.{needs}
 use Rattle.answers.specs.Answers.{cornersCode, cornersWords}
 use Rattle.answers.proofs.telling.corners_told.Statement.{statement}

@@ -1,5 +1,5 @@
 -- `answers::telling::filled_told` meets its contract. Assumes nothing.
-use mathlib.Core.Path.{refl, ap, _∙_}
+use mathlib.Core.Path.{refl}
 use borrow.Author.Needs.{needs}
 use Rattle.answers.specs.Answers.{filledCode, filledWords}
 use Rattle.answers.proofs.telling.filled_told.Statement.{statement}

@@ -1,5 +1,5 @@
 -- `answers::telling::text_told` meets its contract. Assumes nothing.
-use mathlib.Core.Path.{refl, ap, _∙_}
+use mathlib.Core.Path.{refl}
 use borrow.Author.Needs.{needs}
 use Rattle.answers.specs.Answers.{textCode, textWords}
 use Rattle.answers.proofs.telling.text_told.Statement.{statement}

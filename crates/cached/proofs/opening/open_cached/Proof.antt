@@ -1,5 +1,5 @@
 -- `cached::opening::open_cached` meets its contract: with a cache that is long enough, the drawing's tests are left. Assumes nothing.
-use mathlib.Core.Path.{_≡_, sym, _∙_}
+use mathlib.Core.Path.{sym, _∙_}
 use borrow.Author.Needs.{needs}
 use Rattle.cached.specs.Opening.{lent}
 use Rattle.cached.proofs.Openings.{cached-wrong, cached-drawing}

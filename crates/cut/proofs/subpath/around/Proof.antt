@@ -1,5 +1,4 @@
 -- `cut::subpath::around` meets its contract: each answer rewrites with the tests that led to it. Assumes nothing.
-use native.Mathlib.Omega.{arith}
 use borrow.Author.Needs.{needs}
 use borrow.Author.Tests.{lt-ltb, le-ltb, not-true, not-false}
 use Rattle.cut.specs.Near.{around}

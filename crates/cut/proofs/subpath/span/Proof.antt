@@ -1,6 +1,4 @@
 -- `cut::subpath::span` meets its contract: each answer rewrites with the tests that led to it. Assumes nothing.
-use mathlib.Core.Path.{sym, _∙_}
-use native.Mathlib.Omega.{arith}
 use borrow.Author.Needs.{needs}
 use borrow.Author.Tests.{lt-ltb, le-ltb}
 use Rattle.cut.specs.Near.{spanOf}

@@ -1,6 +1,5 @@
 -- `edit::reversal::exchange` meets its contract: what each call ensures, the last call first. Assumes nothing.
 use borrow.Author.Needs.{needs}
-use native.Mathlib.Omega.{arith}
 use Rattle.edit.proofs.reversal.exchange.Statement.{statement}
 use Rattle.edit.proofs.reversal.exchange.Tie as tie
 

@@ -1,5 +1,5 @@
 -- `edit::reversal::reversed` meets its contract: what the first tests refuse, or what comes after them. Assumes nothing.
-use mathlib.Core.Path.{_≡_, _∙_, sym}
+use mathlib.Core.Path.{_∙_, sym}
 use borrow.Author.Needs.{needs}
 use Rattle.edit.proofs.Turning.{reversed-refused, not-opened}
 use Rattle.edit.proofs.reversal.reversed.Statement.{statement}

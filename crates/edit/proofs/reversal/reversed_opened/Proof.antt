@@ -1,5 +1,5 @@
 -- `edit::reversal::reversed_opened` meets its contract: one law for each answer. Assumes nothing.
-use mathlib.Core.Path.{_≡_, _∙_}
+use mathlib.Core.Path.{_∙_}
 use borrow.Author.Needs.{needs}
 use native.Mathlib.Omega.{arith}
 use Rattle.path.proofs.Shapes.{total-in}

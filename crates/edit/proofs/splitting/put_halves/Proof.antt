@@ -1,6 +1,5 @@
 -- `edit::splitting::put_halves` meets its contract: what each call ensures, the last call first. Assumes nothing.
 use borrow.Author.Needs.{needs}
-use native.Mathlib.Omega.{arith}
 use Rattle.edit.proofs.Splits.{ends-apart}
 use Rattle.edit.proofs.splitting.put_halves.Statement.{statement}
 use Rattle.edit.proofs.splitting.put_halves.Tie as tie

@@ -1,7 +1,6 @@
 -- `edit::splitting::split` meets its contract: what the first tests refuse, or what comes after them. Assumes nothing.
-use mathlib.Core.Path.{_≡_, _∙_, sym}
+use mathlib.Core.Path.{_∙_, sym}
 use borrow.Author.Needs.{needs}
-use native.Mathlib.Omega.{arith}
 use Rattle.edit.proofs.Outcomes.{split-refused, not-opened}
 use Rattle.edit.proofs.splitting.split.Statement.{statement}
 use Rattle.edit.proofs.splitting.split.Tie as tie

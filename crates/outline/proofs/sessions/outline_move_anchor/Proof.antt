@@ -9,7 +9,7 @@ returns : tie.Need-returns
 returns c =
     let s = c .before .before .before .before .before .before .before .before in
     let e = s .move-anchor .ensures in
-    rw (← s .before .anchor-at .ensures) (c .edited-told .ensures .0 ∙ ap editedCode (e .0), (c .edited-told .ensures .1 ∙ ap editedWords (e .0), e .1))
+    rw (← s .before .anchor-at .ensures) (record { number = c .edited-told .ensures .0 ∙ ap editedCode (e .answer); answer = c .edited-told .ensures .1 ∙ ap editedWords (e .answer); lists = e .lists })
 
 pub outline-move-anchor-spec : {M : Type 1} → statement M
 outline-move-anchor-spec =

@@ -9,7 +9,7 @@ returns : tie.Need-returns
 returns c =
     let s = c .before .before .before .before .before .before .before .before .before .before .before .before in
     let e = s .split-segment .ensures in
-    (c .edited-told .ensures .0 ∙ ap editedCode (e .0), (c .edited-told .ensures .1 ∙ ap editedWords (e .0), e .1))
+    record { number = c .edited-told .ensures .0 ∙ ap editedCode (e .answer); answer = c .edited-told .ensures .1 ∙ ap editedWords (e .answer); lists = e .lists }
 
 pub outline-split-segment-spec : {M : Type 1} → statement M
 outline-split-segment-spec =

@@ -1,5 +1,4 @@
 -- `path::shape::start_of` meets its contract. Assumes nothing.
-use mathlib.Core.Path.{sym}
 use borrow.Author.Needs.{needs}
 use native.Mathlib.Omega.{arith}
 use lib.ListN.{length-take}

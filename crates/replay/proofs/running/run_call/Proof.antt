@@ -12,14 +12,14 @@ put-answer-requires : tie.Need-put-answer-requires
 put-answer-requires c κs =
     let a = c .before .before .before .before .before .before .before .before .before .before .before .before .before .before .before .before .before .before .before .before .before .before .before .before .before .before .before .before .before .before .before .before .args in
     let o = c .before .before .before .before .before .before .before .before .before .before .before .before .run-one in
-    (c .before .before .before .before .before .before .before .before .before .before .before .before .before .before .before .before .before .before .before .before .before .before .before .before .before .before .before .before .before .before .before .before .pre .2, call-small (a .codes .now) (a .values .now) (a .j) _ _ _ (c .before .before .before .before .before .before .before .before .before .before .before .before .before .before .before .before .before .before .before .before .before .index .ensures) (c .before .before .before .before .before .before .before .before .before .before .before .before .before .before .before .before .before .before .before .index2 .ensures) (c .before .before .before .before .before .before .before .before .before .before .before .before .before .before .before .before .before .before .anchor-at .ensures) (lent (a .shapes .now) (a .anchors .now) (a .radii .now) (a .numbers .now) (a .flags .now)) (a .kind) _ (o .ensures .0) _ (o .ensures .1))
+    (c .before .before .before .before .before .before .before .before .before .before .before .before .before .before .before .before .before .before .before .before .before .before .before .before .before .before .before .before .before .before .before .before .pre .2, call-small (a .codes .now) (a .values .now) (a .j) _ _ _ (c .before .before .before .before .before .before .before .before .before .before .before .before .before .before .before .before .before .before .before .before .before .index .ensures) (c .before .before .before .before .before .before .before .before .before .before .before .before .before .before .before .before .before .before .before .index2 .ensures) (c .before .before .before .before .before .before .before .before .before .before .before .before .before .before .before .before .before .before .anchor-at .ensures) (lent (a .shapes .now) (a .anchors .now) (a .radii .now) (a .numbers .now) (a .flags .now)) (a .kind) _ _ (o .ensures))
 
 returns : tie.Need-returns
 returns c =
     let a = c .before .before .before .before .before .before .before .before .before .before .before .before .before .before .before .before .before .before .before .before .before .before .before .before .before .before .before .before .before .before .before .before .before .before .before .args in
     let o = c .before .before .before .before .before .before .before .before .before .before .before .before .before .before .before .run-one in (
-      call-lists (a .codes .now) (a .values .now) (a .j) _ _ _ (c .before .before .before .before .before .before .before .before .before .before .before .before .before .before .before .before .before .before .before .before .before .before .before .before .index .ensures) (c .before .before .before .before .before .before .before .before .before .before .before .before .before .before .before .before .before .before .before .before .before .before .index2 .ensures) (c .before .before .before .before .before .before .before .before .before .before .before .before .before .before .before .before .before .before .before .before .before .anchor-at .ensures) (lent (a .shapes .now) (a .anchors .now) (a .radii .now) (a .numbers .now) (a .flags .now)) (a .kind) _ (o .ensures .0) _ (o .ensures .1),
-      c .before .before .put-answer .ensures ∙ ap (sets (a .answers .now) (a .j * 5)) (call-words (a .codes .now) (a .values .now) (a .j) _ _ _ (c .before .before .before .before .before .before .before .before .before .before .before .before .before .before .before .before .before .before .before .before .before .before .before .before .index .ensures) (c .before .before .before .before .before .before .before .before .before .before .before .before .before .before .before .before .before .before .before .before .before .before .index2 .ensures) (c .before .before .before .before .before .before .before .before .before .before .before .before .before .before .before .before .before .before .before .before .before .anchor-at .ensures) (lent (a .shapes .now) (a .anchors .now) (a .radii .now) (a .numbers .now) (a .flags .now)) (a .kind) _ (o .ensures .0) _ (o .ensures .1)),
+      call-lists (a .codes .now) (a .values .now) (a .j) _ _ _ (c .before .before .before .before .before .before .before .before .before .before .before .before .before .before .before .before .before .before .before .before .before .before .before .before .index .ensures) (c .before .before .before .before .before .before .before .before .before .before .before .before .before .before .before .before .before .before .before .before .before .before .index2 .ensures) (c .before .before .before .before .before .before .before .before .before .before .before .before .before .before .before .before .before .before .before .before .before .anchor-at .ensures) (lent (a .shapes .now) (a .anchors .now) (a .radii .now) (a .numbers .now) (a .flags .now)) (a .kind) _ _ (o .ensures),
+      c .before .before .put-answer .ensures ∙ ap (sets (a .answers .now) (a .j * 5)) (call-words (a .codes .now) (a .values .now) (a .j) _ _ _ (c .before .before .before .before .before .before .before .before .before .before .before .before .before .before .before .before .before .before .before .before .before .before .before .before .index .ensures) (c .before .before .before .before .before .before .before .before .before .before .before .before .before .before .before .before .before .before .before .before .before .before .index2 .ensures) (c .before .before .before .before .before .before .before .before .before .before .before .before .before .before .before .before .before .before .before .before .before .anchor-at .ensures) (lent (a .shapes .now) (a .anchors .now) (a .radii .now) (a .numbers .now) (a .flags .now)) (a .kind) _ _ (o .ensures)),
     )
 
 pub run-call-spec : {M : Type 1} → statement M

@@ -9,20 +9,19 @@ returns : tie.Need-returns
 returns c =
     let a = c .before .before .before .before .before .before .before .before .before .before .before .before .before .before .before .before .before .before .args in
     let r = c .before .before .before .before .before .before .move-anchor .ensures in
-    ran-move (a .which) (a .s) (a .i) (a .given) (lent (a .shapes .now) (a .anchors .now) (a .radii .now) (a .numbers .now) (a .flags .now)) (a .kind) _ (c .before .before .before .before .before .before .before .before .before .before .before .before .if1 .taken) (r .0) _ _ _ (r .1 .0) (r .1 .1 .0) (r .1 .1 .1)
+    ran-move (a .which) (a .at .subpath) (a .at .anchor) (a .given) (lent (a .shapes .now) (a .anchors .now) (a .radii .now) (a .numbers .now) (a .flags .now)) (a .kind) _ (c .before .before .before .before .before .before .before .before .before .before .before .before .if1 .taken) _ r
 
 returns-2 : tie.Need-returns-2
 returns-2 c =
     let a = c .before .before .before .before .before .before .before .before .before .before .before .before .before .before .before .before .before .before .before .args in
     let r = c .before .before .before .before .before .before .set-radius .ensures in
-    ran-radius (a .which) (a .s) (a .i) (a .given) (lent (a .shapes .now) (a .anchors .now) (a .radii .now) (a .numbers .now) (a .flags .now)) (a .kind) _ (c .before .before .before .before .before .before .before .before .before .before .before .before .if2 .taken) (r .0) _ _ _ (r .1 .0) (r .1 .1 .0) (r .1 .1 .1)
+    ran-radius (a .which) (a .at .subpath) (a .at .anchor) (a .given) (lent (a .shapes .now) (a .anchors .now) (a .radii .now) (a .numbers .now) (a .flags .now)) (a .kind) _ (c .before .before .before .before .before .before .before .before .before .before .before .before .if2 .taken) _ r
 
 returns-3 : tie.Need-returns-3
 returns-3 c =
     let a = c .before .before .before .before .before .before .before .before .before .before .before .before .before .before .before .before .before .before .before .before .before .before .before .args in
     let r = c .before .before .before .before .before .before .before .before .before .before .split-segment .ensures in
-    ran-split (a .which) (a .s) (a .i) (a .given) (lent (a .shapes .now) (a .anchors .now) (a .radii .now) (a .numbers .now) (a .flags .now)) (a .kind) _ (c .before .before .before .before .before .before .before .before .before .before .before .before .before .before .before .before .before .if1 .left) (c .before .before .before .before .before .before .before .before .before .before .before .before .before .before .before .before .if2 .left) (r .0) _ _ _ _ _
-    (r .1 .0) (r .1 .1 .0) (r .1 .1 .1 .0) (r .1 .1 .1 .1 .0) (r .1 .1 .1 .1 .1)
+    ran-split (a .which) (a .at .subpath) (a .at .anchor) (a .given) (lent (a .shapes .now) (a .anchors .now) (a .radii .now) (a .numbers .now) (a .flags .now)) (a .kind) _ (c .before .before .before .before .before .before .before .before .before .before .before .before .before .before .before .before .before .if1 .left) (c .before .before .before .before .before .before .before .before .before .before .before .before .before .before .before .before .if2 .left) _ r
 
 pub run-one-spec : {M : Type 1} → statement M
 run-one-spec =

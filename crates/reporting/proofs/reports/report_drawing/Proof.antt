@@ -17,7 +17,6 @@ use Rattle.session.specs.Model.{lengthsOf}
 use Rattle.cached.specs.Opening.{lent}
 use Rattle.replay.specs.Encoding.{callsFit}
 use Rattle.replay.specs.Replay.{replayLists}
-use Rattle.replay.specs.declared.calls.Replayed.the-variants as replayed
 use Rattle.printing.specs.Printed.{fitted}
 use Rattle.reporting.specs.Gathered.{heldText, Gathers}
 use Rattle.reporting.specs.Report.{roomy}
