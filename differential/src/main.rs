@@ -1,5 +1,6 @@
 //! The differential test: the library against the original, with document 01's stand-ins put into
-//! the latter, bit by bit. `cargo run --release -- run` from this folder; `bench` measures speed.
+//! the latter, bit by bit. `cargo run --release -- run` from this folder; `bench` measures speed, and
+//! `stack` the stack that edits take.
 
 mod anchors;
 mod angles;
@@ -52,7 +53,7 @@ use random::Random;
 use std::process::ExitCode;
 use std::time::Instant;
 
-const USAGE: &str = "usage: differential run [--seed N] [--cases N] | selftest | bench";
+const USAGE: &str = "usage: differential run [--seed N] [--cases N] | selftest | bench | stack";
 
 /// Cases of each call, where none are given.
 const CASES: u64 = 1_000_000;
@@ -111,6 +112,10 @@ fn main() -> ExitCode {
         }
         ["bench"] => {
             bench::run(&mut Random::new(1));
+            ExitCode::SUCCESS
+        }
+        ["stack"] => {
+            bench::stack::run(&mut Random::new(1));
             ExitCode::SUCCESS
         }
         _ => usage(),

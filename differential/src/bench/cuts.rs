@@ -54,8 +54,7 @@ fn calls(anchors: usize) -> usize {
 
 impl Input {
     fn race(&self) -> Race<'_> {
-        let (mut shapes, mut to) = ([0; 1], vec![0.0; 2 * SIX * self.anchors]);
-        let mut answer = [0; 4];
+        let mut room = Room::of(self.anchors);
         Race {
             name: self.name,
             calls: calls(self.anchors),
@@ -63,17 +62,8 @@ impl Input {
             restore: None,
             ours: Box::new(move |at| {
                 for (drawing, _) in &self.drawings[at] {
-                    let refusal = ffi::cut_corners(
-                        &drawing.path.shapes,
-                        &drawing.path.numbers,
-                        &drawing.radii,
-                        drawing.kind,
-                        &mut shapes,
-                        &mut to,
-                        &mut answer,
-                    );
-                    assert_eq!(refusal, ACCEPTED);
-                    black_box((&shapes, &to));
+                    room.cut(drawing);
+                    black_box(&room);
                 }
             }),
             original: Box::new(|at| {
@@ -82,6 +72,34 @@ impl Input {
                 }
             }),
         }
+    }
+}
+
+/// What a drawing of one subpath is cut into, written over by the next.
+pub struct Room {
+    shapes: [u32; 1],
+    numbers: Vec<f64>,
+}
+
+impl Room {
+    pub fn of(anchors: usize) -> Room {
+        Room {
+            shapes: [0],
+            numbers: vec![0.0; 2 * SIX * anchors],
+        }
+    }
+
+    pub fn cut(&mut self, drawing: &Drawing) {
+        let refusal = ffi::cut_corners(
+            &drawing.path.shapes,
+            &drawing.path.numbers,
+            &drawing.radii,
+            drawing.kind,
+            &mut self.shapes,
+            &mut self.numbers,
+            &mut [0; 4],
+        );
+        assert_eq!(refusal, ACCEPTED);
     }
 }
 

@@ -8,7 +8,7 @@ use crate::ffi;
 use crate::original::bezier::{split, BezPath};
 use crate::paths::SIX;
 use crate::random::Random;
-use crate::refusal::ACCEPTED;
+use crate::refusal::{ACCEPTED, MOST_ANCHORS};
 use std::cell::RefCell;
 use std::hint::black_box;
 use std::rc::Rc;
@@ -19,15 +19,76 @@ const DRAWINGS: usize = 4;
 const HALF: f64 = 0.5;
 
 #[derive(Clone, Copy)]
-enum Edit {
+pub enum Edit {
     Move,
     SetRadius,
     Split,
 }
 
+impl Edit {
+    pub const ALL: [Edit; 3] = [Edit::Move, Edit::SetRadius, Edit::Split];
+
+    pub fn name(self) -> &'static str {
+        match self {
+            Edit::Move => "move_anchor",
+            Edit::SetRadius => "set_radius",
+            Edit::Split => "split_segment",
+        }
+    }
+
+    /// So many anchors, or as many as can be edited: a split makes one more.
+    pub fn fitting(self, anchors: usize) -> usize {
+        match self {
+            Edit::Move | Edit::SetRadius => anchors,
+            Edit::Split => anchors.min(MOST_ANCHORS - 1),
+        }
+    }
+}
+
+/// Where the edits are, going from place to place with the rounds.
+#[derive(Clone, Copy)]
+pub enum Where {
+    All,
+    NearTheEnd,
+}
+
+impl Where {
+    /// Anchors of the drawings. Of eight, most are near the end anyway.
+    fn counts(self) -> &'static [usize] {
+        match self {
+            Where::All => &[8, 64, 512],
+            Where::NearTheEnd => &[64, 512],
+        }
+    }
+
+    /// The end of a row's name.
+    fn name(self) -> &'static str {
+        match self {
+            Where::All => "",
+            Where::NearTheEnd => ", near the end",
+        }
+    }
+
+    fn place(self, round: usize, anchors: usize) -> usize {
+        match self {
+            Where::All => round * 37 % anchors,
+            Where::NearTheEnd => near_the_end(round, anchors),
+        }
+    }
+}
+
+/// Anchors on either side of a closed subpath's end that are near it.
+pub const NEAR: usize = 3;
+
+/// The one of them that a round edits.
+pub fn near_the_end(round: usize, anchors: usize) -> usize {
+    (anchors - NEAR + round % (2 * NEAR)) % anchors
+}
+
 struct Input {
-    name: &'static str,
+    name: String,
     edit: Edit,
+    at: Where,
     drawings: Vec<Edited>,
 }
 
@@ -57,27 +118,16 @@ impl Edited {
 pub struct Inputs(Vec<Input>);
 
 impl Inputs {
-    pub fn draw(random: &mut Random) -> Inputs {
-        let mut input = |name, edit, anchors, curved| Input {
-            name,
-            edit,
-            drawings: (0..DRAWINGS)
-                .map(|_| Edited::of(zigzag(anchors, curved, random), edit))
-                .collect(),
-        };
-        use Edit::{Move, SetRadius, Split};
-        Inputs(vec![
-            input("move_anchor, 8 anchors, straight", Move, 8, false),
-            input("move_anchor, 64 anchors, straight", Move, 64, false),
-            input("move_anchor, 512 anchors, straight", Move, 512, false),
-            input("set_radius, 512 anchors, straight", SetRadius, 512, false),
-            input("split_segment, 511 anchors, straight", Split, 511, false),
-            input("move_anchor, 8 anchors, curved", Move, 8, true),
-            input("move_anchor, 64 anchors, curved", Move, 64, true),
-            input("move_anchor, 512 anchors, curved", Move, 512, true),
-            input("set_radius, 512 anchors, curved", SetRadius, 512, true),
-            input("split_segment, 511 anchors, curved", Split, 511, true),
-        ])
+    pub fn draw(at: Where, random: &mut Random) -> Inputs {
+        let mut inputs = Vec::new();
+        for curved in [false, true] {
+            for edit in Edit::ALL {
+                for &count in at.counts() {
+                    inputs.push(Input::draw(edit, count, curved, at, random));
+                }
+            }
+        }
+        Inputs(inputs)
     }
 
     pub fn races(&self) -> Vec<Race<'_>> {
@@ -86,13 +136,26 @@ impl Inputs {
 }
 
 impl Input {
+    fn draw(edit: Edit, count: usize, curved: bool, at: Where, random: &mut Random) -> Input {
+        let (call, anchors) = (edit.name(), edit.fitting(count));
+        let sides = if curved { "curved" } else { "straight" };
+        Input {
+            name: format!("{call}, {anchors} anchors, {sides}{}", at.name()),
+            edit,
+            at,
+            drawings: (0..DRAWINGS)
+                .map(|_| Edited::of(zigzag(anchors, curved, random), edit))
+                .collect(),
+        }
+    }
+
     fn race(&self) -> Race<'_> {
         let fresh = || Vec::from_iter(self.drawings.iter().map(|d| Kept::of(&d.drawing)));
         let (kept, copies) = (Rc::new(RefCell::new(fresh())), fresh());
         let lent = Rc::clone(&kept);
         let mut round = 0;
         Race {
-            name: self.name,
+            name: &self.name,
             calls: 1,
             inputs: DRAWINGS,
             restore: Some(Box::new(move |at| {
@@ -101,7 +164,7 @@ impl Input {
             ours: Box::new(move |at| {
                 for kept in &mut kept.borrow_mut()[at] {
                     round += 1;
-                    kept.edit(self.edit, round);
+                    kept.edit(self.edit, self.at.place(round, kept.anchors));
                     black_box(&kept);
                 }
             }),
@@ -116,7 +179,7 @@ impl Input {
 
 /// A drawing and its cache, with room for one place more.
 #[derive(Clone)]
-struct Kept {
+pub struct Kept {
     anchors: usize,
     shapes: [u32; 1],
     numbers: Vec<f64>,
@@ -126,7 +189,7 @@ struct Kept {
 }
 
 impl Kept {
-    fn of(drawing: &Drawing) -> Kept {
+    pub fn of(drawing: &Drawing) -> Kept {
         let mut cache = Cache::of(drawing);
         let mut kept = Kept {
             anchors: drawing.radii.len(),
@@ -143,9 +206,8 @@ impl Kept {
         kept
     }
 
-    /// Rounds go from place to place.
-    fn edit(&mut self, edit: Edit, round: usize) {
-        let i = round * 37 % self.anchors;
+    /// Edits an anchor, or the segment that starts at it.
+    pub fn edit(&mut self, edit: Edit, i: usize) {
         let step = 0.125;
         let mut answer = [0; 4];
         let refusal = match edit {

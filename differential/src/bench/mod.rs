@@ -1,17 +1,20 @@
 //! The library's speed beside the original's, as ratios from one run: what else the machine does
-//! slows both, since their rounds alternate.
+//! slows both, since their rounds alternate. And the stack that edits take.
 
 mod bends;
 mod cuts;
 mod edits;
 mod hits;
+mod painted;
 mod points;
+pub mod stack;
 mod text;
 
 use crate::original::bezier::{Anchor, BezPath, SubPath};
 use crate::original::geom::P;
 use crate::random::Random;
 use crate::values::uniform;
+use edits::Where;
 use std::ops::Range;
 use std::time::Instant;
 
@@ -19,7 +22,7 @@ const ROUNDS: usize = 256;
 
 /// One call, as both make it: on the inputs in a range.
 struct Race<'a> {
-    name: &'static str,
+    name: &'a str,
     /// Calls in a round: so few that it fits well into a time slice, and a median passes over the
     /// rounds that were interrupted.
     calls: usize,
@@ -37,7 +40,10 @@ pub fn run(random: &mut Random) {
     measure(points::Inputs::draw(random).races());
     measure(bends::Inputs::draw(random).races());
     measure(cuts::Inputs::draw(random).races());
-    measure(edits::Inputs::draw(random).races());
+    // Apart: a round of both touches more than a second-level cache holds, which slows the small drawings.
+    for at in [Where::All, Where::NearTheEnd] {
+        measure(edits::Inputs::draw(at, random).races());
+    }
     measure(text::Inputs::draw(random).races());
     measure(hits::Inputs::draw(random).races());
 }
@@ -58,7 +64,7 @@ fn measure(mut races: Vec<Race>) {
     for (race, (ours, original)) in races.iter().zip(times) {
         let (ours, original) = (median(ours), median(original));
         let ratio = ours / original;
-        println!("{} {ratio:.3} ({ours:.1} ns, {original:.1} ns)", race.name);
+        println!("{} {ratio:.4} ({ours:.1} ns, {original:.1} ns)", race.name);
     }
 }
 
