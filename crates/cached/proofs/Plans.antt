@@ -32,7 +32,7 @@ use Rattle.cut_calls.specs.PlainCut.{subAt}
 use Rattle.cut_calls.specs.CornerKinds.{kindOf, isKnown}
 use Rattle.cache.specs.Cache.{cachedIn}
 use Rattle.recutting.specs.declared.plans.Plan.{Plan}
-use Rattle.recutting.specs.Near.{reachedIn, goodNear}
+use Rattle.recutting.specs.Near.{reachedIn, passesNear, goodNear}
 use Rattle.recutting.specs.Stretch.{Put, Accepts, Decides, placesFound}
 use Rattle.session.specs.declared.answers.Edited.the-variants.{Refused, Accepted}
 use Rattle.session.specs.Drawing.{Lent, cornerKind, drawn, viewIn}
@@ -77,7 +77,7 @@ module _ (e : Edit) (s i reach : ℕ) (there : s < length (e .made .shapes))
   place-same k h = recut-place e s first reach i there refl recuts v (like-self v) k h
 
   test-same : (k : ℕ) → goodNear v sub win k ≡ recutGood e k
-  unfolding goodNear recutGood cachedIn subAt
+  unfolding goodNear passesNear recutGood cachedIn subAt
   test-same k = rw (reached-same k) (go (e .recuts k) refl)
     where
       go : (t : Bool) → e .recuts k ≡ t
@@ -86,7 +86,7 @@ module _ (e : Edit) (s i reach : ℕ) (there : s < length (e .made .shapes))
       go false h = refl
 
   past-good : (k : ℕ) → first + size ≤ k → goodNear v sub win k ≡ true
-  unfolding goodNear reachedIn subAt
+  unfolding goodNear passesNear reachedIn subAt
   past-good k h = rw (le-ltb k (first + size) h, and-false)
 
   pub found-bad : (k : ℕ) → placesFound (viewIn (e .made) s) (subAt (e .made .shapes) s) (record { at = i; reach = reach }) ≡ At k → Least (recutGood e) (total (e .made .shapes)) k

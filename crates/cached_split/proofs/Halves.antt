@@ -67,9 +67,6 @@ module _ (sub : Sub) (a : ℕ) (inside : a < sub .n) (leaving : (sub .closed || 
 
     module _ (v : View) (kind : CornerKind) (h : Halved) (anchors radii : List Float) (f : Halving v kind sub a h anchors radii)
         (g : Gathered) (from : From anchors radii (grown sub) s a g) where
-      abbrev xs : List Float
-      xs = g .anchors
-
       abbrev ja : ℕ
       ja = rolled (sub .n + 1) (s .from) a
 

@@ -1,4 +1,4 @@
--- The lists that a split makes: the drawing in place, of a copy and of a part, and the cache shifted. Assumes nothing.
+-- The lists that a split makes: the drawing in place, and the cache shifted. Assumes nothing.
 use mathlib.Core.Path.{_≡_, sym, ap, _∙_}
 use mathlib.Core.Logic.{⊎-elim}
 use mathlib.Core.List.{List}
@@ -30,14 +30,6 @@ module _ (xs : List Float) (a n w : ℕ) (la : a < n) (room : n * w + w ≤ leng
       (λ (m : g ≤ a). rw (old-low a g m) (gap-below xs a n w (omega arith) room g i l m))
       (λ (m : a < g). rw (old-high a g m) (gap-above xs a n w (omega arith) room g i l m h))
       (order g a)
-
--- ---- a list overwritten twice
-overwrite-twice : {A : Type 0} (d : A) (m n : ℕ) (f g : ℕ → A) (xs : List A) → m ≤ n → n ≤ length xs → overwrite n f (overwrite m g xs) ≡ overwrite n f xs
-overwrite-twice d m n f g xs l k =
-    let e = length-overwrite m g xs in
-    as-overwrite d (overwrite n f (overwrite m g xs)) xs n f (length-overwrite n f (overwrite m g xs) ∙ e)
-    (λ i h. at-overwrite d n f (overwrite m g xs) i h (omega arith))
-    (λ i h. past-overwrite d n f (overwrite m g xs) i h ∙ past-overwrite d m g xs i (omega arith))
 
 -- ---- anchors, in place
 module _ (xs : List Float) (n a b : ℕ) (t : Float) (la : a < n) (lb : b < n) (p : a ≡ b → ⊥) where

@@ -32,8 +32,8 @@ use Rattle.cut.specs.Unrolled.{rolled}
 use Rattle.cut.proofs.Steps.{near-self, near-span, before-span, after-span, span-in}
 use Rattle.cut.proofs.Stages.{touched, numbersAt, flagsAt}
 use Rattle.cache.specs.Tests.{twelveIn}
-use Rattle.recutting.specs.Near.{reachedIn, goodNear}
-use Rattle.recutting.specs.Stretch.{HoldsNumbers, HoldsFlags, passesNear, placesFound}
+use Rattle.recutting.specs.Near.{reachedIn, passesNear, goodNear}
+use Rattle.recutting.specs.Stretch.{HoldsNumbers, HoldsFlags, placesFound}
 use Rattle.recutting.proofs.Copies.{placeFrom, place-number}
 use Rattle.recutting.proofs.Limits.{reached-index}
 
@@ -57,9 +57,6 @@ put-more f xs j x b h e q l =
 module _ (sub : Sub) (w : Window) where
   abbrev close : ℕ → Bool
   close = near (w .reach) (sub .n) (sub .closed) (w .at)
-
-  abbrev there : ℕ × ℕ
-  there = (spanOf (w .reach) (sub .n) (sub .closed) (w .at) .from, spanOf (w .reach) (sub .n) (sub .closed) (w .at) .to)
 
   -- the span
   pub span-order : w .at < sub .n → (spanOf (w .reach) (sub .n) (sub .closed) (w .at) .from ≤ spanOf (w .reach) (sub .n) (sub .closed) (w .at) .to) × (spanOf (w .reach) (sub .n) (sub .closed) (w .at) .to ≤ sub .n)

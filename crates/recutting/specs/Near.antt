@@ -15,6 +15,10 @@ use Rattle.cut.specs.Places.{placeAt, placeNumbers}
 unfoldable pub reachedIn : Sub → Window → ℕ → Bool
 reachedIn sub w k = leb (sub .first) k && (ltb k (sub .first + sub .n) && near (w .reach) (sub .n) (sub .closed) (w .at) (k - sub .first))
 
+-- a place within reach passes a test
+unfoldable pub passesNear : Sub → Window → (ℕ → Bool) → ℕ → Bool
+passesNear sub w t k = not (reachedIn sub w k) || t k
+
 -- the twelve numbers of place k are in the limit, if it is within reach
 unfoldable pub goodNear : View → Sub → Window → ℕ → Bool
-goodNear v sub w k = not (reachedIn sub w k) || all (λ q. inLimit (entry (placeNumbers (placeAt v (k - sub .first))) q)) 12
+goodNear v sub w = passesNear sub w (λ k. all (λ q. inLimit (entry (placeNumbers (placeAt v (k - sub .first))) q)) 12)

@@ -2,7 +2,7 @@
 use Prim.Native.Nat.{ℕ, _+_, _-_, _*_, _≤_, _<_}
 use mathlib.Core.Path.{_≡_}
 use mathlib.Core.Logic.{_⊎_}
-use mathlib.Core.Bool.{Bool, true, false, not, _||_, cond}
+use mathlib.Core.Bool.{true, false, cond}
 use mathlib.Core.List.{List}
 use lib.Dec.{eqb}
 use lib.ListN.{length, getD}
@@ -25,7 +25,7 @@ use Rattle.cut.specs.Unrolled.{unrolled, rolled}
 use Rattle.recutting.specs.declared.stretches.Stretch.{Stretch}
 use Rattle.recutting.specs.declared.stretches.Gathered.{Gathered}
 use Rattle.recutting.specs.declared.plans.Plan.{Plan}
-use Rattle.recutting.specs.Near.{reachedIn, goodNear}
+use Rattle.recutting.specs.Near.{goodNear}
 
 -- ---- which stretch
 -- the whole subpath
@@ -84,10 +84,6 @@ pub record HoldsNumbers (v : View) (sub : Sub) (w : Window) (from : ℕ) (number
 pub record HoldsFlags (v : View) (sub : Sub) (w : Window) (from : ℕ) (flags : List ℕ) : Type 0 where
   pub flag : (i : ℕ) → i < sub .n → near (w .reach) (sub .n) (sub .closed) (w .at) i ≡ true
       → getD flags (rolled (sub .n) from i) 0 ≡ flagOf (isCut v i)
-
--- a place within reach passes a test
-unfoldable pub passesNear : Sub → Window → (ℕ → Bool) → ℕ → Bool
-passesNear sub w t k = not (reachedIn sub w k) || t k
 
 -- the first place within reach that breaks the limit
 unfoldable pub placesFound : View → Sub → Window → Found

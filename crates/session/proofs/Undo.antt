@@ -304,9 +304,6 @@ module _ (d : Drawing) (s a : ℕ) (t : Float) (known : hasSegment (d .shapes) s
   abbrev w0 : ℕ
   w0 = wordAt (d .shapes) s
 
-  abbrev whole : Entry
-  whole = wasWhole s a (d .anchor (segmentStart sh0 s a) .«h_out») (d .anchor (segmentEnd sh0 s a) .«h_in»)
-
   there0 : s < length sh0
   there0 = segment-sub sh0 s a known
 

@@ -10,7 +10,7 @@ use Rattle.cut.specs.Near.{near, spanOf}
 use Rattle.cut.specs.Unrolled.{rolled}
 use Rattle.cut.proofs.Unrolled.{index-back}
 use Rattle.cache.specs.Tests.{twelveIn}
-use Rattle.recutting.specs.Stretch.{passesNear}
+use Rattle.recutting.specs.Near.{passesNear}
 use Rattle.recutting.proofs.Passing.{span-order, pass-none, pass-skip, pass-more, pass-bad, pass-end}
 use Rattle.recutting.proofs.plans.first_bad.Statement.{statement}
 use Rattle.recutting.proofs.plans.first_bad.Tie as tie
