@@ -211,7 +211,7 @@ module _ (l : Lent) (kind : ℕ) (c : Call) (s i reach : ℕ) (new : Anchor) (ra
         le-leb (total (l .shapes)) (length (l .flags)) (g .flags),
       ))
 
-  module _ (p : Plan) (whole : p .total ≡ m) (d : Decides (viewIn (editOf (drawn l kind) c .made) s) (subAt (l .shapes) s) (record { at = i; reach = reach }) p) where
+  module _ (p : Plan) (whole : p .number ≡ 0 → p .total ≡ m) (d : Decides (viewIn (editOf (drawn l kind) c .made) s) (subAt (l .shapes) s) (record { at = i; reach = reach }) p) where
     there-made : s < length (editOf (drawn l kind) c .made .shapes)
     there-made = rw (one .shapes) one-there
 
@@ -242,7 +242,7 @@ module _ (l : Lent) (kind : ℕ) (c : Call) (s i reach : ℕ) (new : Anchor) (ra
           h .0,
           record {
             verdict = v;
-            answer = cc (a .count, whole, r .count, same-total, one .count) ∙ accepted-answer l kind c v (r .few) (one .known ∙ has);
+            answer = cc (a .count, whole (h .0), r .count, same-total, one .count) ∙ accepted-answer l kind c v (r .few) (one .known ∙ has);
             stands = one-stands;
             index = rw (one .shapes) one-inside;
             places = rw (one .shapes) a;

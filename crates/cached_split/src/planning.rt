@@ -4,7 +4,6 @@ ghost use mathlib.Core.Bool.{true, _||_};
 ghost use Prim.Native.Nat.{_+_, _*_, _≤_, _<_};
 ghost use lib.Dec.{ltb};
 ghost use lib.ListN.{length};
-ghost use Rattle.path.specs.Shape.{next};
 ghost use Rattle.cut.specs.View.{View};
 ghost use Rattle.recutting.specs.Stretch.{Decides};
 ghost use Rattle.cached.specs.Opening.{lent};
@@ -43,7 +42,7 @@ fn plan_halves(
 ) -> Plan
     requires { ⌜ (sub .first + sub .n < 1024) × (a < sub .n) × ((sub .closed || ltb (a + 1 + 1) (sub .n + 1)) ≡ true) ⌝ }
     requires { ⌜ ((sub .first + sub .n) * 6 ≤ length (now anchors)) × (sub .first + sub .n ≤ length (now radii)) ⌝ }
-    ensures { λ r. ⌜ (r .total ≡ total) × ((v : View) → Halving v kind sub a h (now (anchors .entry)) (now (radii .entry)) → Decides v (grown sub) (record { at = a + 1; reach = 4 }) r) ⌝ }
+    ensures { λ r. ⌜ (r .number ≡ 0 → r .total ≡ total) × ((v : View) → Halving v kind sub a h (now (anchors .entry)) (now (radii .entry)) → Decides v (grown sub) (record { at = a + 1; reach = 4 }) r) ⌝ }
 {
     let more = grown(sub);
     let n = more.n;

@@ -1,6 +1,4 @@
--- Row locality round the end: what the cut leaves at an index of a stretch of a view's anchors, unrolled once round its end and seen as an open view, is what it
--- leaves there in the view itself: three anchors and more from each end of the stretch that is not the view's own. A corner and the setback that is asked take one
--- anchor on each side, a fitted radius and whether there is a cut two, a place three: its segments are trimmed by the cuts beside it. Assumes nothing.
+-- Stretch locality: three anchors and more from each of its ends that is not the view's own, a stretch of a view's anchors, unrolled once round the end and seen as an open view, is cut as the view is. Assumes nothing.
 use mathlib.Core.Path.{_≡_, refl, sym, ap, _∙_}
 use mathlib.Core.Logic.{_⊎_, inl, inr, ⊎-elim}
 use mathlib.Core.Bool.{Bool, true, false, _||_}
@@ -104,7 +102,8 @@ unrolled-prev n from j h l =
     (order n (from + j + 1)))
     (order n (from + j))
 
--- ---- the law
+-- ---- the law: a corner and the setback that is asked take one anchor on each side, a fitted radius and whether there is a cut two, a place three, since its
+-- segments are trimmed by the cuts beside it
 -- r is the stretch of v's anchors from index `from`, round the end only where v is closed
 pub record Unrolled (v r : View) (from : ℕ) : Type 0 where
   pub inside : from < v .n

@@ -1,5 +1,4 @@
 pub mod Gaps
-pub mod Inserts
 pub mod Made
 pub mod Outcomes
 pub mod Segments

@@ -82,7 +82,7 @@ pub fn plan_recut(
 ) -> Plan
     requires { ⌜ About sub w s × (sub .first + sub .n ≤ 1024) × (w .at < sub .n) × (w .reach ≤ 4) ⌝ }
     requires { ⌜ (length (now anchors) ≡ 90) × (length (now radii) ≡ 15) ⌝ }
-    ensures { λ r. ⌜ (r .total ≡ total) × ((v : View) → Stretched v kind sub s (now (anchors .entry)) (now (radii .entry)) → Decides v sub w r) ⌝ }
+    ensures { λ r. ⌜ (r .number ≡ 0 → r .total ≡ total) × ((v : View) → Stretched v kind sub s (now (anchors .entry)) (now (radii .entry)) → Decides v sub w r) ⌝ }
 {
     let mut rows = [0.0f64; 105];
     let mut cuts = [0.0f64; 150];
@@ -111,15 +111,7 @@ pub fn plan_recut(
     );
     let bad = first_bad(sub, w, from, &numbers);
     if let Found::At(k) = bad {
-        return Plan {
-            number: 9,
-            place: k,
-            count: 0,
-            total: total,
-            from: from,
-            numbers: numbers,
-            flags: flags,
-        };
+        return refuse(refusal::RESULT, k);
     }
     Plan {
         number: 0,
@@ -144,7 +136,7 @@ pub fn plan_put(
     total: usize,
 ) -> Plan
     requires { ⌜ (sub .first + sub .n ≤ 1024) × (w .at < sub .n) × (w .reach ≤ 4) × ((sub .first + sub .n) * 6 ≤ length (now anchors)) × (sub .first + sub .n ≤ length (now radii)) ⌝ }
-    ensures { λ r. ⌜ (r .total ≡ total) × ((v : View) → Put v kind sub (w .at) new radius (now (anchors .entry)) (now (radii .entry)) → Decides v sub w r) ⌝ }
+    ensures { λ r. ⌜ (r .number ≡ 0 → r .total ≡ total) × ((v : View) → Put v kind sub (w .at) new radius (now (anchors .entry)) (now (radii .entry)) → Decides v sub w r) ⌝ }
 {
     let s = stretch_of(sub, w);
     let g = gather(anchors, radii, sub, s, sub.n);

@@ -16,13 +16,6 @@ pub struct Stretch {
     pub mid: usize,
 }
 
-// k steps back from i, down to 0.
-fn back(i: usize, k: usize) -> usize
-    ensures { λ r. ⌜ r ≡ i - k ⌝ }
-{
-    if i < k { 0 } else { i - k }
-}
-
 // The window with three anchors more on each side, as far as there are.
 pub fn stretch_of(sub: Sub, w: Window) -> Stretch
     requires { ⌜ (w .at < sub .n) × (w .reach ≤ 4) × (sub .n ≤ 1024) ⌝ }
@@ -41,33 +34,19 @@ pub fn stretch_of(sub: Sub, w: Window) -> Stretch
         };
     }
     if closed {
-        if at < side {
-            return Stretch {
-                from: at + n - side,
-                n: 2 * side + 1,
-                closed: false,
-                mid: side,
-            };
-        }
+        // `side` steps back from `at`, round the end
         return Stretch {
-            from: at - side,
+            from: rolled(n, side, at),
             n: 2 * side + 1,
             closed: false,
             mid: side,
         };
     }
-    let from = back(at, side);
-    if at + side + 1 < n {
-        return Stretch {
-            from: from,
-            n: at + side + 1 - from,
-            closed: false,
-            mid: at - from,
-        };
-    }
+    let there = cut::span(side, n, false, at);
+    let from = there.from;
     Stretch {
         from: from,
-        n: n - from,
+        n: there.to - from,
         closed: false,
         mid: at - from,
     }

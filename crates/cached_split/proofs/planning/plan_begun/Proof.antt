@@ -159,7 +159,7 @@ unfolding lengthsOf
 returns-4 c =
     let s = c .before .before .before .before .before .before .before .before .before .before .before .before .before .before .before .before .before .before in
     ⊎-elim (λ q. absurd (nine (q .0) (c .before .before .if1 .left)))
-    (λ q. inr (q .0, split-granted (lists s) (s .args .d .kind) (s .args .at .subpath) (s .args .at .anchor) (s .args .t) (s .args .d .n) (s .args .d .way) (s .pre .ready) (s .pre .segment) (s .pre .few) (none (c .before .before .before .before .before)) (c .before .before .before .plan-halves .result) (q .1) (c .before .before .before .plan-halves .ensures .0) (sym (c .before .has-room .ensures) ∙ not-false _ (c .if2 .left)))) (decided (c .before .before .before))
+    (λ q. inr (q .0, split-granted (lists s) (s .args .d .kind) (s .args .at .subpath) (s .args .at .anchor) (s .args .t) (s .args .d .n) (s .args .d .way) (s .pre .ready) (s .pre .segment) (s .pre .few) (none (c .before .before .before .before .before)) (c .before .before .before .plan-halves .result) (q .1) (c .before .before .before .plan-halves .ensures .0 (q .0)) (sym (c .before .has-room .ensures) ∙ not-false _ (c .if2 .left)))) (decided (c .before .before .before))
 
 pub plan-begun-spec : {M : Type 1} → statement M
 plan-begun-spec =

@@ -4,6 +4,7 @@ use mathlib.Core.Logic.{inl, inr}
 use native.Mathlib.Omega.{arith}
 use lib.ListN.{length}
 use borrow.Author.Needs.{needs}
+use Rattle.path.specs.declared.limit.Found.the-variants.{At}
 use Rattle.cut_calls.proofs.Laying.{length-numbers}
 use Rattle.recutting.proofs.Unrolling.{stretch-count, index-in, stretch-numbers, stretch-flags}
 use Rattle.recutting.proofs.Passing.{found-places}
@@ -19,13 +20,14 @@ first-bad-requires c κs =
 
 returns : tie.Need-returns
 returns c =
-    let a = c .before .before .before .before .before .before .before .before .before .before .before .before .before .before .before .before .before .before .args in
-    let p = c .before .before .before .before .before .before .before .before .before .before .before .before .before .before .before .before .before .before .pre in
-    let r = c .before .before .before .before .before .before .before .before .before .before .recut .ensures .1 .1 .1 .1 in (
-      refl,
+    let a = c .before .before .before .before .before .before .before .before .before .before .before .before .before .before .before .before .before .before .before .args in
+    let p = c .before .before .before .before .before .before .before .before .before .before .before .before .before .before .before .before .before .before .before .pre in
+    let r = c .before .before .before .before .before .before .before .before .before .before .before .recut .ensures .1 .1 .1 .1 in
+    let n = c .refuse .ensures .0 in (
+      λ z. absurd (omega arith),
       λ v f.
           let h = stretch-numbers (a .sub) (a .w) (a .s) (p .0 .0) (p .0 .2) v (a .kind) (a .anchors .now) (a .radii .now) f _ _ (let z = p .0 .0 .short in omega arith) (r .0) in
-          inl (refl, sym (found-places (a .sub) (a .w) v (a .s .from) _ h) ∙ sym (c .before .before .before .first-bad .ensures) ∙ c .before .bad .given .1),
+          inl (n, sym (found-places (a .sub) (a .w) v (a .s .from) _ h) ∙ sym (c .before .before .before .before .first-bad .ensures) ∙ c .before .before .bad .given .1 ∙ ap At (sym (c .refuse .ensures .1))),
     )
 
 returns-2 : tie.Need-returns-2
@@ -34,7 +36,7 @@ returns-2 c =
     let p = c .before .before .before .before .before .before .before .before .before .before .before .before .before .before .before .before .before .pre in
     let e = c .before .before .before .before .before .before .before .before .before .recut .ensures in
     let r = e .1 .1 .1 .1 in (
-      refl,
+      λ z. refl,
       λ v f.
           let h = stretch-numbers (a .sub) (a .w) (a .s) (p .0 .0) (p .0 .2) v (a .kind) (a .anchors .now) (a .radii .now) f _ _ (let z = p .0 .0 .short in omega arith) (r .0) in
           inr (
@@ -63,6 +65,7 @@ plan-recut-spec =
     (λ c. search needs)
     first-bad-requires
     (λ c. search needs)
+    (λ c κs. tt)
     returns
     (λ c. search needs)
     returns-2)
