@@ -13,7 +13,7 @@ use Rattle.views.proofs.Laws.{order, same, length-overwrite, at-overwrite, past
 use Rattle.real.specs.Operators.{0f}
 use Rattle.path.specs.Flat.{anchorAt, anchorNumbers, putAnchor, listed}
 use Rattle.cut.specs.Near.{old}
-use Rattle.cut.proofs.Locality.{old-low, old-high}
+use Rattle.cut.proofs.Shifts.{old-low, old-high}
 use Rattle.edit.specs.declared.splitting.Halved.{Halved}
 use Rattle.edit.specs.Gap.{gapped}
 use Rattle.edit.specs.Split.{halves, shifted, splitAnchors, splitPlaces}

@@ -12,7 +12,8 @@ use Rattle.cut.specs.View.{View}
 use Rattle.cut.specs.Places.{placeAt}
 use Rattle.cut.specs.Near.{gap, near, nearCount, old}
 use Rattle.views.proofs.Bools.{not-both}
-use Rattle.cut.proofs.Locality.{locality, Inserted, split-locality, old-low, old-high}
+use Rattle.cut.proofs.Locality.{locality, Inserted, split-locality}
+use Rattle.cut.proofs.Shifts.{old-low, old-high}
 
 pub near-sym : (k n : ℕ) (c : Bool) (i j : ℕ) → near k n c i j ≡ near k n c j i
 unfolding near gap

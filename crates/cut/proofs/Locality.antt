@@ -5,14 +5,15 @@ use mathlib.Core.Bool.{Bool, true, false, _||_}
 use Prim.Native.Nat.{ℕ, zero, suc, _+_, _-_, _≤_, _<_}
 use native.Mathlib.Omega.{arith}
 use lib.Dec.{ltb}
-use borrow.Author.Tests.{le-leb, lt-leb, lt-ltb, le-ltb}
+use borrow.Author.Tests.{lt-ltb, le-ltb}
 use Rattle.views.proofs.Laws.{order}
 use Rattle.cut.specs.View.{View, arrives, leaves}
 use Rattle.path.specs.Shape.{prev, next}
 use Rattle.cut.specs.Places.{placeAt}
-use Rattle.cut.specs.Near.{gap, near, old, shifted}
+use Rattle.cut.specs.Near.{gap, near, old}
 use Rattle.views.proofs.Bools.{not-both}
 use Rattle.cut.proofs.Steps.{next-in, next-round, near-cases, near-in, near-round}
+use Rattle.cut.proofs.Shifts.{old-low, old-high}
 use Rattle.cut.proofs.Follow.{In, follows}
 
 -- ---- two views of one shape that agree near i
@@ -83,29 +84,6 @@ far-step k m n c a i j ha hi hj f h = ⊎-elim near-by round-by (near-cases k n 
 
     round-by : (c ≡ true) × (n ≤ gap i j + k) → Far m n c a j
     round-by l = let g = f .round (l .0) in record { straight = omega arith; round = λ t. omega arith }
-
-pub old-low : (a j : ℕ) → j ≤ a → old a j ≡ j
-unfolding old
-old-low a j h = rw (le-leb j a h)
-
-pub old-high : (a j : ℕ) → a < j → old a j ≡ j - 1
-unfolding old
-old-high a j h = rw (lt-leb j a h)
-
-pub shifted-low : (a j : ℕ) → j ≤ a → shifted a j ≡ j
-unfolding shifted
-shifted-low a j h = rw (le-leb j a h)
-
-pub shifted-high : (a j : ℕ) → a < j → shifted a j ≡ j + 1
-unfolding shifted
-shifted-high a j h = rw (lt-leb j a h)
-
-pub old-shifted : (a j : ℕ) → old a (shifted a j) ≡ j
-old-shifted a j =
-    ⊎-elim
-    (λ (l : j ≤ a). rw (shifted-low a j l) (old-low a j l))
-    (λ (l : a < j). rw (shifted-high a j l) (old-high a (j + 1) (omega arith) ∙ omega arith))
-    (order j a)
 
 -- ---- away from the new anchor, neighbours and ends are as before
 module _ (n a j : ℕ) (c : Bool) (from : a < n) (inside : j < n + 1) (f : Far 1 (n + 1) c (a + 1) j) where

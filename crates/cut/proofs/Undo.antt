@@ -9,7 +9,7 @@ use Rattle.views.proofs.Bools.{or-cases, or-left, or-right}
 use Rattle.path.specs.Shape.{isSegment, next}
 use Rattle.cut.specs.Near.{gap, near, shifted}
 use Rattle.cut.proofs.Steps.{same-test, next-in, next-round, segment-cases, near-cases, near-in, near-round}
-use Rattle.cut.proofs.Locality.{shifted-low, shifted-high}
+use Rattle.cut.proofs.Shifts.{shifted-low, shifted-high}
 
 -- within three steps of a or of b, each straight or round the end
 two-cases : {X : Type 0} (n : ℕ) (c : Bool) (a b j : ℕ) → (near 3 n c a j || near 3 n c b j) ≡ true

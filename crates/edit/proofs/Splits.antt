@@ -21,7 +21,7 @@ use Rattle.path.proofs.Anchors.{anchor-good}
 use Rattle.path.proofs.Places.{anchor-number, numbers-at, length-put, put-in, put-out}
 use Rattle.call.specs.Tests.{outlineIn}
 use Rattle.cut.specs.Near.{old}
-use Rattle.cut.proofs.Locality.{shifted-low, shifted-high}
+use Rattle.cut.proofs.Shifts.{shifted-low, shifted-high}
 use Rattle.edit.specs.declared.splitting.Halved.{Halved}
 use Rattle.edit.specs.Gap.{gapped}
 use Rattle.edit.specs.Split.{halves, shifted, splitAnchors, putsWithin, splitPlaces}

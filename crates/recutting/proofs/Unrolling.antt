@@ -28,7 +28,8 @@ use Rattle.cut.specs.Rows.{flagOf}
 use Rattle.cut.specs.Recut.{reached, recutNumbers, recutFlags}
 use Rattle.cut.specs.Unrolled.{unrolled, rolled}
 use Rattle.cut.proofs.Steps.{refuted, same-test, near-cases, near-open, near-in, near-round}
-use Rattle.cut.proofs.Locality.{locality, old-low}
+use Rattle.cut.proofs.Locality.{locality}
+use Rattle.cut.proofs.Shifts.{old-low}
 use Rattle.cut.proofs.Outlines.{place-cut}
 use Rattle.cut.proofs.Unrolled.{Index, index-of, index-is, index-back, index-one, unrolled-in, unrolled-rolled, unrolled-place, count-round}
 use Rattle.cache.proofs.Reached.{reached-here}

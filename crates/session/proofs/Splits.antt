@@ -19,7 +19,8 @@ use Rattle.cut.specs.Near.{gap, near, old}
 use Rattle.cut.specs.Places.{placeAt}
 use Rattle.cut.specs.Recut.{reached}
 use Rattle.cut.proofs.Steps.{next-in, next-round, next-lt, segment-cases}
-use Rattle.cut.proofs.Locality.{locality, Inserted, Far, far-of, old-low, old-high, shifted-low, shifted-high, split-locality}
+use Rattle.cut.proofs.Locality.{locality, Inserted, Far, far-of, split-locality}
+use Rattle.cut.proofs.Shifts.{old-low, old-high, shifted-low, shifted-high}
 use Rattle.cut_calls.specs.PlainCut.{subAt}
 use Rattle.session.specs.Drawing.{Drawing, viewIn}
 use Rattle.cache.specs.Cache.{placeOfPath}

@@ -1,10 +1,9 @@
 -- Undo: taken back, an edit leaves the drawing that it found; and recutting within three steps of the two anchors that become neighbours again suffices, in any drawing. Assumes nothing.
 use mathlib.Core.Path.{_≡_, refl, sym, ap, subst, _∙_}
-use mathlib.Core.Logic.{_⊎_, inl, inr, ⊎-elim}
+use mathlib.Core.Logic.{⊎-elim}
 use mathlib.Core.Bool.{Bool, true, false, _||_, cond, true≢false}
 use mathlib.Core.List.{List}
-use Prim.Native.Nat.{ℕ, zero, suc, _+_, _-_, _≤_, _<_}
-use native.Mathlib.Numerals.{add-one}
+use Prim.Native.Nat.{ℕ, _+_, _-_, _≤_, _<_}
 use native.Mathlib.Omega.{arith}
 use lib.Dec.{leb, ltb, eqb}
 use lib.ListN.{length, set, length-set}
@@ -28,7 +27,7 @@ use Rattle.cut.specs.Near.{near, nearCount, old, shifted}
 use Rattle.path.proofs.Shapes.{total-in}
 use Rattle.cut.proofs.Steps.{near-self}
 use Rattle.cut.specs.Recut.{reached}
-use Rattle.cut.proofs.Locality.{old-low, old-high, shifted-low, shifted-high, old-shifted}
+use Rattle.cut.proofs.Shifts.{shifted-low, shifted-high, old-shifted, shifted-old, shifted-once, shifted-new, shifted-self, count-shifted}
 use Rattle.cut.proofs.Undo.{undo-reach}
 use Rattle.cut_calls.specs.PlainCut.{subAt}
 use Rattle.cache.proofs.Reached.{reached-count, reached-here, reached-below, reached-past}
@@ -81,53 +80,6 @@ module _ (v w : View) (first a k : ℕ) (n : w .n ≡ v .n + 1) (closed : w .clo
               let y : shifted (first + a) k - first ≡ shifted a j = omega arith in
               rw (reached-here v first 3 a k l h, reached-here v first 3 (next (v .n) a) k l h, undo-reach (v .n) (v .closed) a j (omega arith) seg)
               (sym (reached-here w first 4 (a + 1) (shifted (first + a) k) (omega arith) (omega arith) ∙ rw (y, n, closed)))
-
--- ---- indices with an anchor put in after a, and back
-shifted-old : (a k : ℕ) → (k ≡ a + 1 → ⊥) → shifted a (old a k) ≡ k
-shifted-old a k ne =
-    ⊎-elim
-    (λ (l : k ≤ a). rw (old-low a k l) (shifted-low a k l))
-    (λ (l : a < k). let g : a + 1 < k = after l (order k (a + 1)) in rw (old-high a k l) (shifted-high a (k - 1) (omega arith) ∙ omega arith))
-    (order k a)
-  where
-    after : a < k → (k ≤ a + 1) ⊎ (a + 1 < k) → a + 1 < k
-    after l (inl g) = absurd (ne (omega arith))
-    after l (inr g) = g
-
-shifted-new : (a k : ℕ) → shifted a k ≡ a + 1 → ⊥
-shifted-new a k e = ⊎-elim (λ (l : k ≤ a). let z = shifted-low a k l in omega arith) (λ (l : a < k). let z = shifted-high a k l in omega arith) (order k a)
-
-shifted-self : (a k : ℕ) → shifted a k ≡ a → k ≡ a
-shifted-self a k e = ⊎-elim (λ (l : k ≤ a). let z = shifted-low a k l in omega arith) (λ (l : a < k). let z = shifted-high a k l in omega arith) (order k a)
-
-shifted-once : (a j k : ℕ) → shifted a j ≡ shifted a k → j ≡ k
-shifted-once a j k e = sym (old-shifted a j) ∙ ap (old a) e ∙ old-shifted a k
-
-one-more : (b : Bool) (x y : ℕ) → y ≡ suc x → cond b (suc x) x + 1 ≡ cond b (suc y) y
-one-more true x y e = omega arith
-one-more false x y e = omega arith
-
-shifted-suc : (a k : ℕ) → shifted (suc a) (suc k) ≡ suc (shifted a k)
-shifted-suc a k =
-    ⊎-elim
-    (λ (l : k ≤ a). rw (shifted-low a k l) (shifted-low (suc a) (suc k) (omega arith)))
-    (λ (l : a < k). rw (shifted-high a k l) (shifted-high (suc a) (suc k) (omega arith) ∙ omega arith))
-    (order k a)
-
--- a place counted for each index but a + 1, and that one
-count-shifted : (p : ℕ → Bool) (a n : ℕ) → a < n → p (a + 1) ≡ true → count (λ k. p (shifted a k)) n + 1 ≡ count p (n + 1)
-unfolding count
-count-shifted p a zero h e = absurd (omega arith)
-count-shifted p zero (suc n) h e =
-    let z : suc n + 1 ≡ suc (suc n) = omega arith in
-    let x : shifted 0 0 ≡ 0 = shifted-low 0 0 (omega arith) in
-    let y : (k : ℕ) → shifted 0 (suc k) ≡ suc (suc k) = λ k. shifted-high 0 (suc k) (omega arith) ∙ omega arith in
-    rw (z, x, e, count-cong (λ k. p (shifted 0 (suc k))) (λ k. p (suc (suc k))) n (λ k l. ap p (y k))) (one-more (p 0) (count (λ k. p (suc (suc k))) n) _ refl)
-count-shifted p (suc a) (suc n) h e =
-    let z : suc n + 1 ≡ suc (n + 1) = omega arith in
-    let x : shifted (suc a) 0 ≡ 0 = shifted-low (suc a) 0 (omega arith) in
-    let ih = count-shifted (λ k. p (suc k)) a n (omega arith) (ap p (omega arith) ∙ e) in
-    rw (z, x, count-cong (λ k. p (shifted (suc a) (suc k))) (λ k. p (suc (shifted a k))) n (λ k l. ap p (shifted-suc a k))) (one-more (p 0) (count (λ k. p (suc (shifted a k))) n) _ (sym ih ∙ add-one _))
 
 -- ---- the merge of a segment that has an anchor put in, in any drawing
 module _ (m : Drawing) (s a : ℕ) (o h : P) (few : total (m .shapes) ≤ 512) (known : hasMerge (m .shapes) s a ≡ true) where

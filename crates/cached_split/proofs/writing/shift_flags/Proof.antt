@@ -6,7 +6,7 @@ use lib.ListN.{length, getD, length-set}
 use lib.Seq.{getD-set-other}
 use Rattle.views.proofs.Laws.{as-overwrite}
 use Rattle.cut.specs.Near.{old}
-use Rattle.cut.proofs.Locality.{old-low}
+use Rattle.cut.proofs.Shifts.{old-low}
 use Rattle.cached_split.specs.Splitting.{shiftedFlags}
 use Rattle.cached_split.proofs.Makes.{flag-step}
 use Rattle.cached_split.proofs.writing.shift_flags.Statement.{statement}

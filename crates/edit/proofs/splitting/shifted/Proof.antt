@@ -1,7 +1,7 @@
 -- `edit::splitting::shifted` meets its contract. Assumes nothing.
 use mathlib.Core.Path.{sym}
 use native.Mathlib.Omega.{arith}
-use Rattle.cut.proofs.Locality.{shifted-low, shifted-high}
+use Rattle.cut.proofs.Shifts.{shifted-low, shifted-high}
 use Rattle.edit.proofs.splitting.shifted.Statement.{statement}
 use Rattle.edit.proofs.splitting.shifted.Tie as tie
 

@@ -4,7 +4,7 @@ use native.Mathlib.Omega.{arith}
 use lib.ListN.{length, length-set}
 use borrow.Author.Needs.{needs}
 use Rattle.path.proofs.Places.{length-put}
-use Rattle.cut.proofs.Locality.{old-low}
+use Rattle.cut.proofs.Shifts.{old-low}
 use Rattle.recutting.proofs.Unrolling.{stretch-put}
 use Rattle.recutting.proofs.plans.plan_put.Statement.{statement}
 use Rattle.recutting.proofs.plans.plan_put.Tie as tie

@@ -2,7 +2,7 @@
 use mathlib.Core.Path.{sym}
 use native.Mathlib.Omega.{arith}
 use borrow.Author.Needs.{needs}
-use Rattle.cut.proofs.Locality.{old-low, old-high}
+use Rattle.cut.proofs.Shifts.{old-low, old-high}
 use Rattle.recutting.proofs.stretches.stood.Statement.{statement}
 use Rattle.recutting.proofs.stretches.stood.Tie as tie
 

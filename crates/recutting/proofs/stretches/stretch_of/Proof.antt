@@ -1,5 +1,5 @@
 -- `recutting::stretches::stretch_of` meets its contract: the whole subpath, or a part of it that ends three anchors from the window or at an end. Assumes nothing.
-use mathlib.Core.Path.{_≡_, refl, ap}
+use mathlib.Core.Path.{_≡_, refl}
 use mathlib.Core.Logic.{_⊎_, inl, inr, ⊎-elim}
 use mathlib.Core.Bool.{false}
 use Prim.Native.Nat.{ℕ, _+_, _-_, _≤_, _<_}
