@@ -12,6 +12,7 @@ mod caches;
 mod call;
 mod case;
 mod compare;
+mod comparisons;
 mod corners;
 mod cubics;
 mod curves;
@@ -49,7 +50,9 @@ mod text;
 mod values;
 mod writings;
 
+use comparisons::Comparison;
 use random::Random;
+use report::Tally;
 use std::process::ExitCode;
 use std::time::Instant;
 
@@ -145,39 +148,10 @@ fn run(seed: u64, cases: u64) -> ExitCode {
     let mut random = Random::new(seed);
     selftest::run(&mut random);
     let mut passed = true;
-    let mut tell = |tally: report::Tally| {
+    comparisons::run(all(cases), &mut random, |tally| {
         tally.print();
         passed &= tally.passed();
-    };
-    tell(root::run(ROOTS * cases, &mut random));
-    for call in &cubics::CALLS {
-        tell(call.run(cases, &mut random));
-    }
-    for shape in &shapes::SHAPES {
-        tell(shapes::run(shape, edits(cases), &mut random));
-    }
-    tell(bends::transform(edits(cases), &mut random));
-    tell(bends::auto_smooth(edits(cases), &mut random));
-    tell(bends::bend_segment(edits(cases), &mut random));
-    tell(cuts::run(drawings(cases), &mut random));
-    tell(cache::build(drawings(cases), &mut random));
-    tell(cache::assemble(drawings(cases), &mut random));
-    tell(corners::run(corner_paths(cases), &mut random));
-    tell(text::write_num(NUMERALS * cases, &mut random));
-    tell(text::to_svg_d(drawings(cases), &mut random));
-    tell(edits::split(edits(cases), &mut random));
-    tell(edits::reversed(edits(cases), &mut random));
-    tell(joins::join(edits(cases), &mut random));
-    tell(edits::delete(edits(cases), &mut random));
-    tell(hits::hit_anchor(hits(cases), &mut random));
-    tell(hits::hit_segment(hits(cases), &mut random));
-    tell(hits::bounds(hits(cases), &mut random));
-    tell(jobs::run(prints(cases), &mut random));
-    tell(prints::run(prints(cases), &mut random));
-    tell(sessions::edits(drawings(cases), &mut random));
-    tell(sessions::lists(session_calls(cases), &mut random));
-    tell(replays::run(drawings(cases), &mut random));
-    tell(sessions::long(LONG_LIST.min(cases), &mut random));
+    });
     let seconds = start.elapsed().as_secs_f64();
     let verdict = if passed { "passed" } else { "FAILED" };
     println!("{verdict}: seed {seed}, {cases} cases of each call, {seconds:.1} seconds");
@@ -186,4 +160,45 @@ fn run(seed: u64, cases: u64) -> ExitCode {
     } else {
         ExitCode::FAILURE
     }
+}
+
+/// Every call's comparison, with its number of cases.
+fn all(cases: u64) -> Vec<Comparison> {
+    fn of(cases: u64, compare: fn(u64, &mut Random) -> Tally) -> Comparison {
+        Box::new(move |random| compare(cases, random))
+    }
+    let mut all = vec![of(ROOTS * cases, root::run)];
+    for call in cubics::CALLS {
+        all.push(Box::new(move |random| call.run(cases, random)));
+    }
+    for shape in shapes::SHAPES {
+        all.push(Box::new(move |random| {
+            shapes::run(&shape, edits(cases), random)
+        }));
+    }
+    all.extend([
+        of(edits(cases), bends::transform),
+        of(edits(cases), bends::auto_smooth),
+        of(edits(cases), bends::bend_segment),
+        of(drawings(cases), cuts::run),
+        of(drawings(cases), cache::build),
+        of(drawings(cases), cache::assemble),
+        of(corner_paths(cases), corners::run),
+        of(NUMERALS * cases, text::write_num),
+        of(drawings(cases), text::to_svg_d),
+        of(edits(cases), edits::split),
+        of(edits(cases), edits::reversed),
+        of(edits(cases), joins::join),
+        of(edits(cases), edits::delete),
+        of(hits(cases), hits::hit_anchor),
+        of(hits(cases), hits::hit_segment),
+        of(hits(cases), hits::bounds),
+        of(prints(cases), jobs::run),
+        of(prints(cases), prints::run),
+        of(drawings(cases), sessions::edits),
+        of(session_calls(cases), sessions::lists),
+        of(drawings(cases), replays::run),
+        of(LONG_LIST.min(cases), sessions::long),
+    ]);
+    all
 }
