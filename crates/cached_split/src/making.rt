@@ -4,9 +4,11 @@ ghost use Prim.Native.Nat.{ℕ, _+_, _*_, _≤_, _<_};
 ghost use lib.ListN.{length};
 ghost use Rattle.views.specs.View.{entry, overwrite};
 ghost use Rattle.path.specs.Flat.{anchorAt, anchorNumbers};
-ghost use Rattle.edit.specs.Split.{halves, splitAnchors};
+ghost use Rattle.path.specs.Limit.{firstBad};
+ghost use Rattle.cut.specs.Near.{shifted};
+ghost use Rattle.edit.specs.Split.{halves, putsWithin, splitAnchors};
 ghost use Rattle.session.specs.Edits.{splitRadii};
-ghost use Rattle.cached_split.specs.Splitting.{grown, putsFound};
+ghost use Rattle.cached_split.specs.Splitting.{grown};
 use cut::Sub;
 use edit::Halved;
 use path::Found;
@@ -19,12 +21,11 @@ pub fn halved(anchors: &[f64], a: usize, b: usize, t: f64) -> Halved
     edit::halves(path::anchor_at(anchors, a), path::anchor_at(anchors, b), t)
 }
 
-// The first of the three anchors put, where the segment from place a to place b is split, that breaks the limit.
-pub fn first_put(anchors: &[f64], a: usize, b: usize, t: f64) -> Found
-    requires { ⌜ (a < 512) × (b < 512) × (a ≡ b → ⊥) × (a * 6 + 6 ≤ length (now anchors)) × (b * 6 + 6 ≤ length (now anchors)) ⌝ }
-    ensures { λ r. ⌜ ((n : ℕ) → a < n → b < n → r ≡ putsFound (anchorAt (now (anchors .entry))) a b t (n + 1)) ⌝ }
+// The first of the three anchors put, where a segment from place a to place b is split into h, that breaks the limit.
+pub fn first_put(h: Halved, a: usize, b: usize) -> Found
+    requires { ⌜ (a < 512) × (b < 512) × (a ≡ b → ⊥) ⌝ }
+    ensures { λ r. ⌜ ((n : ℕ) → a < n → b < n → r ≡ firstBad (putsWithin h a (shifted a b)) (n + 1)) ⌝ }
 {
-    let h = halved(anchors, a, b, t);
     edit::first_out(h, a, edit::shifted(a, b))
 }
 

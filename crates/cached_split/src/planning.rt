@@ -93,11 +93,11 @@ fn plan_begun(
     let sub = sub_at(shapes, at.subpath);
     let from = sub.first + a;
     let to = sub.first + path::next(sub.n, a);
-    let bad = first_put(anchors, from, to, t);
+    let h = halved(anchors, from, to, t);
+    let bad = first_put(h, from, to);
     if let Found::At(k) = bad {
         return refuse(refusal::RESULT, k);
     }
-    let h = halved(anchors, from, to, t);
     let plan = plan_halves(anchors, radii, way, sub, a, h, more);
     let number = plan.number;
     if number != 0 {

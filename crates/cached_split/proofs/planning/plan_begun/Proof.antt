@@ -88,10 +88,10 @@ ends c =
 
 halved-requires : tie.Need-halved-requires
 halved-requires c κs =
-    let d = ends (c .before .before .before) in
+    let d = ends c in
     let x = d .from in
     let y = d .to in
-    let z = inside (c .before .before .before .before .before .before) .anchors in
+    let z = inside (c .before .before .before) .anchors in
     (omega arith, omega arith)
 
 -- the ends of the segment as the definitions have them
@@ -105,20 +105,22 @@ named c =
     let h = here (c .before .before .before) in
     record { from = rw (h .first); to = rw (c .before .next .ensures, h .first, h .size) }
 
+-- the first anchor put that breaks the limit
+found : (c : tie.After-first-put) → let a = c .before .before .before .before .before .before .before .before .before .before .before .before .args in c .first-put .result ≡ putsFound (anchorAt (a .anchors .now)) (segmentStart (a .shapes .now) (a .at .subpath) (a .at .anchor)) (segmentEnd (a .shapes .now) (a .at .subpath) (a .at .anchor)) (a .t) (a .d .n + 1)
+unfolding putsFound
+found c =
+    let d = ends (c .before .before) in
+    let m = named (c .before .before) in
+    rw (← m .from, ← m .to, ← c .before .halved .ensures) (c .first-put .ensures (c .before .before .before .before .before .before .before .before .before .before .before .before .args .d .n) (d .from) (d .to))
+
 returns : tie.Need-returns
 returns c =
-    let s = c .before .before .before .before .before .before .before .before .before .before .before .before .before .before .before in
-    let d = ends (c .before .before .before .before .before) in
-    let m = named (c .before .before .before .before .before) in
-    let fd = rw (m .from, m .to) at (sym (c .before .before .before .before .first-put .ensures (s .args .d .n) (d .from) (d .to)) ∙ c .before .before .bad .given .1) in
+    let s = c .before .before .before .before .before .before .before .before .before .before .before .before .before .before .before .before in
     let n = c .refuse .ensures .0 in
-    inl ((λ z. omega arith), split-put-bad (lists s) (s .args .d .kind) (s .args .at .subpath) (s .args .at .anchor) (s .args .t) (s .args .d .n) (s .args .d .way) (s .pre .ready) (s .pre .segment) (s .pre .few) _ fd ∙ sym (rw (c .refuse .ensures .0, c .refuse .ensures .1)))
+    inl ((λ z. omega arith), split-put-bad (lists s) (s .args .d .kind) (s .args .at .subpath) (s .args .at .anchor) (s .args .t) (s .args .d .n) (s .args .d .way) (s .pre .ready) (s .pre .segment) (s .pre .few) _ (sym (found (c .before .before .before .before)) ∙ c .before .before .bad .given .1) ∙ sym (rw (c .refuse .ensures .0, c .refuse .ensures .1)))
 
-none : (c : tie.After-enum-told) → let a = c .before .before .before .before .before .before .before .before .before .before .before .before .before .args in putsFound (anchorAt (a .anchors .now)) (segmentStart (a .shapes .now) (a .at .subpath) (a .at .anchor)) (segmentEnd (a .shapes .now) (a .at .subpath) (a .at .anchor)) (a .t) (a .d .n + 1) ≡ Nothing
-none c =
-    let d = ends (c .before .before .before) in
-    let m = named (c .before .before .before) in
-    rw (m .from, m .to) at (sym (c .before .before .first-put .ensures (c .before .before .before .before .before .before .before .before .before .before .before .before .before .args .d .n) (d .from) (d .to)) ∙ c .enum-told .given .1)
+none : (c : tie.After-enum-told) → let a = c .before .before .before .before .before .before .before .before .before .before .before .before .before .before .args in putsFound (anchorAt (a .anchors .now)) (segmentStart (a .shapes .now) (a .at .subpath) (a .at .anchor)) (segmentEnd (a .shapes .now) (a .at .subpath) (a .at .anchor)) (a .t) (a .d .n + 1) ≡ Nothing
+none c = sym (found (c .before .before)) ∙ c .enum-told .given .1
 
 plan-halves-requires : tie.Need-plan-halves-requires
 plan-halves-requires c κs =
@@ -135,8 +137,8 @@ decided c =
     let s = c .before .before .before .before .before .before .before .before .before .before .before .before .before .before .before in
     let e = c .before .before .before .before .before .before .before .before .sub-at .ensures in
     let m = named (c .before .before .before .before .before) in
-    let hv = halving (lists s) (s .args .d .kind) (s .args .at .subpath) (s .args .at .anchor) (s .args .t) (s .args .d .n) (s .args .d .way) (s .pre .ready) (s .pre .segment) (s .pre .few) (none (c .before .before)) in
-    rw e at (c .plan-halves .ensures .1 (viewIn (splitAt (drawn (lists s) (s .args .d .kind)) (s .args .at .subpath) (s .args .at .anchor) (s .args .t)) (s .args .at .subpath)) (rw (c .before .halved .ensures, m .from, m .to, e) hv))
+    let hv = halving (lists s) (s .args .d .kind) (s .args .at .subpath) (s .args .at .anchor) (s .args .t) (s .args .d .n) (s .args .d .way) (s .pre .ready) (s .pre .segment) (s .pre .few) (none (c .before)) in
+    rw e at (c .plan-halves .ensures .1 (viewIn (splitAt (drawn (lists s) (s .args .d .kind)) (s .args .at .subpath) (s .args .at .anchor) (s .args .t)) (s .args .at .subpath)) (rw (c .before .before .before .before .halved .ensures, m .from, m .to, e) hv))
 
 nine : {n : ℕ} → n ≡ 9 → n ≡ 0 → ⊥
 nine x y = omega arith
@@ -144,7 +146,7 @@ nine x y = omega arith
 returns-2 : tie.Need-returns-2
 returns-2 c =
     let s = c .before .before .before .before .before .before .before .before .before .before .before .before .before .before .before .before in
-    inl (c .if1 .taken, ⊎-elim (λ q. split-recut-bad (lists s) (s .args .d .kind) (s .args .at .subpath) (s .args .at .anchor) (s .args .t) (s .args .d .n) (s .args .d .way) (s .pre .ready) (s .pre .segment) (s .pre .few) (none (c .before .before .before)) (c .before .plan-halves .result) q) (λ q. absurd (c .if1 .taken (q .0))) (decided (c .before)))
+    inl (c .if1 .taken, ⊎-elim (λ q. split-recut-bad (lists s) (s .args .d .kind) (s .args .at .subpath) (s .args .at .anchor) (s .args .t) (s .args .d .n) (s .args .d .way) (s .pre .ready) (s .pre .segment) (s .pre .few) (none (c .before .before)) (c .before .plan-halves .result) q) (λ q. absurd (c .if1 .taken (q .0))) (decided (c .before)))
 
 returns-3 : tie.Need-returns-3
 unfolding lengthsOf
@@ -152,14 +154,14 @@ returns-3 c =
     let s = c .before .before .before .before .before .before .before .before .before .before .before .before .before .before .before .before .before .before .before in
     let n = c .refuse2 .ensures .0 in
     ⊎-elim (λ q. absurd (nine (q .0) (c .before .before .before .if1 .left)))
-    (λ q. inl ((λ z. omega arith), split-short (lists s) (s .args .d .kind) (s .args .at .subpath) (s .args .at .anchor) (s .args .t) (s .args .d .n) (s .args .d .way) (s .pre .ready) (s .pre .segment) (s .pre .few) (none (c .before .before .before .before .before .before)) (c .before .before .before .before .plan-halves .result) (q .1) (sym (c .before .before .has-room .ensures) ∙ not-true _ (c .before .if2 .taken)) ∙ sym (rw (c .refuse2 .ensures .0, c .refuse2 .ensures .1)))) (decided (c .before .before .before .before))
+    (λ q. inl ((λ z. omega arith), split-short (lists s) (s .args .d .kind) (s .args .at .subpath) (s .args .at .anchor) (s .args .t) (s .args .d .n) (s .args .d .way) (s .pre .ready) (s .pre .segment) (s .pre .few) (none (c .before .before .before .before .before)) (c .before .before .before .before .plan-halves .result) (q .1) (sym (c .before .before .has-room .ensures) ∙ not-true _ (c .before .if2 .taken)) ∙ sym (rw (c .refuse2 .ensures .0, c .refuse2 .ensures .1)))) (decided (c .before .before .before .before))
 
 returns-4 : tie.Need-returns-4
 unfolding lengthsOf
 returns-4 c =
     let s = c .before .before .before .before .before .before .before .before .before .before .before .before .before .before .before .before .before .before in
     ⊎-elim (λ q. absurd (nine (q .0) (c .before .before .if1 .left)))
-    (λ q. inr (q .0, split-granted (lists s) (s .args .d .kind) (s .args .at .subpath) (s .args .at .anchor) (s .args .t) (s .args .d .n) (s .args .d .way) (s .pre .ready) (s .pre .segment) (s .pre .few) (none (c .before .before .before .before .before)) (c .before .before .before .plan-halves .result) (q .1) (c .before .before .before .plan-halves .ensures .0 (q .0)) (sym (c .before .has-room .ensures) ∙ not-false _ (c .if2 .left)))) (decided (c .before .before .before))
+    (λ q. inr (q .0, split-granted (lists s) (s .args .d .kind) (s .args .at .subpath) (s .args .at .anchor) (s .args .t) (s .args .d .n) (s .args .d .way) (s .pre .ready) (s .pre .segment) (s .pre .few) (none (c .before .before .before .before)) (c .before .before .before .plan-halves .result) (q .1) (c .before .before .before .plan-halves .ensures .0 (q .0)) (sym (c .before .has-room .ensures) ∙ not-false _ (c .if2 .left)))) (decided (c .before .before .before))
 
 pub plan-begun-spec : {M : Type 1} → statement M
 plan-begun-spec =
@@ -170,12 +172,12 @@ plan-begun-spec =
     (λ c. let i = inside (c .before) in let x = i .index in let y = i .path in let z = i .few in record { fits = omega arith })
     (λ c κs. inside (c .before) .index)
     (λ c. let i = inside (c .before .before .before) in let x = i .next-index in let y = i .path in let z = i .few in let e = c .before .next .ensures in record { fits = omega arith })
-    (λ c κs. let d = ends c in let i = inside (c .before .before .before) in let x = d .from in let y = d .to in let z = i .few in let u = i .anchors in (omega arith, omega arith, d .apart, omega arith, omega arith))
+    halved-requires
+    (λ c κs. let d = ends (c .before) in let x = d .from in let y = d .to in let z = inside (c .before .before .before .before) .few in (omega arith, omega arith, d .apart))
     (λ c. search needs)
     (λ c κs. tt)
     returns
     (λ c. search needs)
-    halved-requires
     plan-halves-requires
     returns-2
     (λ c κs. let z = inside (c .before .before .before .before .before .before .before .before .before) .few in omega arith)

@@ -18,25 +18,26 @@ use Rattle.recutting.proofs.stretches.stretch_of.Tie as tie
 returns : tie.Need-returns
 returns c = record { inside = omega arith; few = omega arith; short = omega arith; middle = omega arith; is = inl (record { starts = refl; size = refl; closed = refl; middle = refl }) }
 
--- ---- closed: round the end
+-- ---- closed: k steps back from i, round the end of n anchors
+back-round : (n k i r : ℕ) → r ≡ rolled n k i → k < n → i < n → (r < n) × ((r + k ≡ i) ⊎ (r + k ≡ i + n))
+back-round n k i r e l h =
+    let x = index-back n k i l h in
+    let y = x .1 in
+    (omega arith, ⊎-elim (λ (q : k + rolled n k i ≡ i). inl (omega arith)) (λ (q : k + rolled n k i ≡ i + n). inr (omega arith)) (x .0 .is))
+
 returns-2 : tie.Need-returns-2
 returns-2 c =
     let a = c .before .before .before .before .args in
-    let e = c .rolled .ensures in
-    let x = index-back (a .sub .n) (a .w .reach + 3) (a .w .at) (omega arith) (omega arith) in
-    let y = x .1 in
+    let x = back-round _ _ _ _ (c .rolled .ensures) (omega arith) (omega arith) in
     record {
-      inside = omega arith;
+      inside = x .0;
       few = omega arith;
       short = omega arith;
       middle = omega arith;
       is = inr (record {
         straight = refl;
         within = λ o. absurd (not-both (a .sub .closed) o (c .before .if2 .taken));
-        middle = ⊎-elim
-            (λ (h : a .w .reach + 3 + rolled (a .sub .n) (a .w .reach + 3) (a .w .at) ≡ a .w .at). inl (omega arith))
-            (λ (h : a .w .reach + 3 + rolled (a .sub .n) (a .w .reach + 3) (a .w .at) ≡ a .w .at + a .sub .n). inr (omega arith))
-            (x .0 .is);
+        middle = x .1;
         mid-in = omega arith;
         low = inl (omega arith);
         high = inl (omega arith);
