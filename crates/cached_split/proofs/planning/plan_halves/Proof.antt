@@ -1,11 +1,9 @@
 -- `cached_split::planning::plan_halves` meets its contract: the stretch holds the subpath as the split leaves it. Assumes nothing.
-use mathlib.Core.Path.{ap, _∙_}
+use mathlib.Core.Path.{ap}
 use native.Mathlib.Omega.{arith}
 use lib.ListN.{length, length-set}
 use borrow.Author.Needs.{needs}
 use Rattle.path.specs.Shape.{next}
-use Rattle.path.specs.Flat.{putAnchor}
-use Rattle.path.proofs.Places.{length-put}
 use Rattle.cut.proofs.Steps.{next-lt}
 use Rattle.session.proofs.Splits.{old-below}
 use Rattle.cached_split.proofs.Halves.{start-in, end-in, stretch-halves}
@@ -84,7 +82,8 @@ put-anchor-requires-2 c κs =
     let ef = ap (λ x. x .first) e in
     let st = c .before .before .before .before .before .before .before .before .before .before .before .before .before .stretch-of .result in
     let ab = rw e at (c .before .before .before .before .before .before .before .before .before .before .before .before .before .stretch-of .ensures) in
-    let g = ap length (c .before .before .put-anchor .ensures) ∙ length-put (c .before .before .before .before .before .before .before .before .before .before .before .before .gather .result .anchors) (c .before .before .before .before .before .before .before .before .before .before .before .rolled .result) (a .h .left) ∙ c .before .before .before .before .before .before .before .before .before .before .before .before .gather .ensures .anchors-long in
+    let g = simp length-set at (ap length (c .before .before .put-anchor .ensures)) in
+    let l = c .before .before .before .before .before .before .before .before .before .before .before .before .gather .ensures .anchors-long in
     let x = ab .middle in
     let y = ab .short in
     omega arith
@@ -98,7 +97,9 @@ put-anchor-requires-3 c κs =
     let ef = ap (λ x. x .first) e in
     let st = c .before .before .before .before .before .before .before .before .before .before .before .before .before .before .before .before .stretch-of .result in
     let ab = rw e at (c .before .before .before .before .before .before .before .before .before .before .before .before .before .before .before .before .stretch-of .ensures) in
-    let g = (rw (c .before .before .before .before .before .put-anchor .ensures) at (ap length (c .before .before .put-anchor2 .ensures))) ∙ length-put (putAnchor (c .before .before .before .before .before .before .before .before .before .before .before .before .before .before .before .gather .result .anchors) (c .before .before .before .before .before .before .before .before .before .before .before .before .before .before .rolled .result) (a .h .left)) (c .before .before .before .before .before .before .before .before .before .before .before .before .before .before .before .before .stretch-of .result .mid) (a .h .middle) ∙ length-put (c .before .before .before .before .before .before .before .before .before .before .before .before .before .before .before .gather .result .anchors) (c .before .before .before .before .before .before .before .before .before .before .before .before .before .before .rolled .result) (a .h .left) ∙ c .before .before .before .before .before .before .before .before .before .before .before .before .before .before .before .gather .ensures .anchors-long in
+    let g = simp length-set at (ap length (c .before .before .before .before .before .put-anchor .ensures)) in
+    let g2 = simp length-set at (ap length (c .before .before .put-anchor2 .ensures)) in
+    let l = c .before .before .before .before .before .before .before .before .before .before .before .before .before .before .before .gather .ensures .anchors-long in
     let k = end-in (a .sub) (a .a) (p .0 .1) (p .0 .2) st ab in
     let q = rw (c .before .before .before .before .before .before .before .before .before .before .before .before .before .next .ensures, e) at (c .before .before .before .before .before .before .before .before .before .before .before .before .rolled2 .ensures) in
     omega arith
@@ -112,8 +113,11 @@ plan-recut-requires c κs =
     let ef = ap (λ x. x .first) e in
     let s = c .before .before .before .before .before .before .before .before .before .before .before .before .before .before .before .before .before .before .before .before .stretch-of .ensures in
     let g = c .before .before .before .before .before .before .before .before .before .before .before .before .before .before .before .before .before .before .before .gather .ensures in
-    let g3 = (rw (c .before .before .before .before .before .before .put-anchor2 .ensures, c .before .before .before .before .before .before .before .before .before .put-anchor .ensures) at (ap length (c .before .before .before .put-anchor3 .ensures))) ∙ length-put (putAnchor (putAnchor (c .before .before .before .before .before .before .before .before .before .before .before .before .before .before .before .before .before .before .before .gather .result .anchors) (c .before .before .before .before .before .before .before .before .before .before .before .before .before .before .before .before .before .before .rolled .result) (a .h .left)) (c .before .before .before .before .before .before .before .before .before .before .before .before .before .before .before .before .before .before .before .before .stretch-of .result .mid) (a .h .middle)) (c .before .before .before .before .before .before .before .before .before .before .before .before .before .before .before .before .rolled2 .result) (a .h .right) ∙ length-put (putAnchor (c .before .before .before .before .before .before .before .before .before .before .before .before .before .before .before .before .before .before .before .gather .result .anchors) (c .before .before .before .before .before .before .before .before .before .before .before .before .before .before .before .before .before .before .rolled .result) (a .h .left)) (c .before .before .before .before .before .before .before .before .before .before .before .before .before .before .before .before .before .before .before .before .stretch-of .result .mid) (a .h .middle) ∙ length-put (c .before .before .before .before .before .before .before .before .before .before .before .before .before .before .before .before .before .before .before .gather .result .anchors) (c .before .before .before .before .before .before .before .before .before .before .before .before .before .before .before .before .before .before .rolled .result) (a .h .left) ∙ c .before .before .before .before .before .before .before .before .before .before .before .before .before .before .before .before .before .before .before .gather .ensures .anchors-long in
-    ((s, omega arith, omega arith, omega arith), (g3, simp length-set (g .radii-long)))
+    let l = g .anchors-long in
+    let g1 = simp length-set at (ap length (c .before .before .before .before .before .before .before .before .before .put-anchor .ensures)) in
+    let g2 = simp length-set at (ap length (c .before .before .before .before .before .before .put-anchor2 .ensures)) in
+    let g3 = simp length-set at (ap length (c .before .before .before .put-anchor3 .ensures)) in
+    ((s, omega arith, omega arith, omega arith), (omega arith, simp length-set (g .radii-long)))
 
 returns : tie.Need-returns
 returns c =

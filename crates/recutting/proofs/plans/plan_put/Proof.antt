@@ -1,9 +1,8 @@
 -- `recutting::plans::plan_put` meets its contract: the stretch holds the subpath as the edit leaves it. Assumes nothing.
-use mathlib.Core.Path.{ap, _∙_}
+use mathlib.Core.Path.{ap}
 use native.Mathlib.Omega.{arith}
 use lib.ListN.{length, length-set}
 use borrow.Author.Needs.{needs}
-use Rattle.path.proofs.Places.{length-put}
 use Rattle.cut.proofs.Shifts.{old-low}
 use Rattle.recutting.proofs.Unrolling.{stretch-put}
 use Rattle.recutting.proofs.plans.plan_put.Statement.{statement}
@@ -29,7 +28,9 @@ plan-recut-requires c κs =
     let p = c .before .before .before .before .before .before .before .before .before .before .before .pre in
     let s = c .before .before .before .before .before .before .before .before .stretch-of .ensures in
     let g = c .before .before .before .before .before .before .before .gather .ensures in
-    ((s, p .0, p .1, p .2), (ap length (c .before .before .before .put-anchor .ensures) ∙ length-put (c .before .before .before .before .before .before .before .gather .result .anchors) (c .before .before .before .before .before .before .before .before .stretch-of .result .mid) (c .before .before .before .before .before .before .before .before .before .before .before .args .new) ∙ g .anchors-long, simp length-set (g .radii-long)))
+    let l = g .anchors-long in
+    let h = simp length-set at (ap length (c .before .before .before .put-anchor .ensures)) in
+    ((s, p .0, p .1, p .2), (omega arith, simp length-set (g .radii-long)))
 
 returns : tie.Need-returns
 returns c =
