@@ -4,6 +4,7 @@ mod edits;
 
 use edits::File;
 use std::path::{Path, PathBuf};
+use std::process::Command;
 use std::{env, fs};
 
 fn main() {
@@ -23,7 +24,7 @@ fn main() {
             }
         }
     }
-    link(&here);
+    link(&here, &out);
 }
 
 fn write(out: &Path, file: &File, text: &str) {
@@ -47,7 +48,7 @@ fn find_original(here: &Path, files: &[File]) -> PathBuf {
 }
 
 /// Links liboutline.a, from the folder in `OUTLINE_LIB` or from the repository's target folder.
-fn link(here: &Path) {
+fn link(here: &Path, out: &Path) {
     println!("cargo:rerun-if-env-changed=OUTLINE_LIB");
     let given = env::var_os("OUTLINE_LIB").map(PathBuf::from);
     let folder = given.unwrap_or_else(|| here.join("../target/staticlib"));
@@ -58,6 +59,17 @@ fn link(here: &Path) {
         library.display()
     );
     println!("cargo:rerun-if-changed={}", library.display());
-    println!("cargo:rustc-link-search=native={}", folder.display());
+    align(&library, &out.join("liboutline.a"));
+    println!("cargo:rustc-link-search=native={}", out.display());
     println!("cargo:rustc-link-lib=static=outline");
+}
+
+/// The library with each function at a multiple of 64 bytes, as the processor fetches them: the same instructions
+/// at another place took up to 1.4 times as long, so that a change elsewhere moved what `bench` says of `root`.
+fn align(library: &Path, aligned: &Path) {
+    let done = Command::new("objcopy")
+        .args(["--set-section-alignment", ".text.*=64"])
+        .args([library, aligned])
+        .status();
+    assert!(done.is_ok_and(|s| s.success()), "objcopy (binutils) failed");
 }
