@@ -64,8 +64,8 @@ fn link(here: &Path, out: &Path) {
     println!("cargo:rustc-link-lib=static=outline");
 }
 
-/// The library with each function at a multiple of 64 bytes, as the processor fetches them: the same instructions
-/// at another place took up to 1.4 times as long, so that a change elsewhere moved what `bench` says of `root`.
+/// The library with each function at a multiple of 64 bytes: the same instructions at another place took up to
+/// 1.4 times as long, so that a change elsewhere moved what `bench` says of `root`.
 fn align(library: &Path, aligned: &Path) {
     let done = Command::new("objcopy")
         .args(["--set-section-alignment", ".text.*=64"])

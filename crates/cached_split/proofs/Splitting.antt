@@ -8,12 +8,13 @@ use lib.Dec.{ltb, eqb}
 use lib.ListN.{length}
 use lib.Ieee.{Float}
 use borrow.Author.Tests.{ltb-true, eq-eqb, ne-eqb, le-leb, lt-leb}
-use Rattle.path.specs.Limit.{anchorGood}
+use Rattle.path.specs.Limit.{anchorGood, firstBad}
 use Rattle.views.specs.View.{entry}
 use Rattle.views.proofs.Bools.{and-left, and-right}
 use Rattle.real.specs.Limit.{inLimit}
 use Rattle.refusal.specs.Order.{accepted, refused}
 use Rattle.path.specs.declared.anchor.Anchor.{Anchor}
+use Rattle.path.specs.declared.limit.Found.{Found}
 use Rattle.path.specs.declared.limit.Found.the-variants.{At, Nothing}
 use Rattle.path.specs.Flat.{anchorAt}
 use Rattle.path.specs.Shape.{countOf, closedOf, total, wordAt, start, isSegment, next}
@@ -43,7 +44,7 @@ use Rattle.recutting.specs.declared.plans.Plan.{Plan}
 use Rattle.recutting.specs.Stretch.{Accepts, placesFound}
 use Rattle.cached.specs.declared.opening.Ready.the-variants as ready
 use Rattle.cached.specs.Opening.{readyOf}
-use Rattle.cached_split.specs.Splitting.{grown, putsFound}
+use Rattle.cached_split.specs.Splitting.{grown}
 use Rattle.cached.proofs.Openings.{ReadyFor, ready-says}
 use Rattle.cached.proofs.Plans.{found-bad, found-good}
 use Rattle.cached_split.specs.Planning.{Halving, Granted}
@@ -61,6 +62,10 @@ module _ (f : ℕ → Anchor) (a b : ℕ) (t : Float) where
   split-right : (shifted a b ≡ a → ⊥) → (shifted a b ≡ a + 1 → ⊥) → splitAnchors f a b t (shifted a b) ≡ halves (f a) (f b) t .right
   unfolding splitAnchors
   split-right x y = rw (ne-eqb (shifted a b) a x, ne-eqb (shifted a b) (a + 1) y, eq-eqb (shifted a b) (shifted a b) refl)
+
+-- the first of n places whose anchor, put there by a split between a and b, breaks the limit
+unfoldable pub putsFound : (ℕ → Anchor) → ℕ → ℕ → Float → ℕ → Found
+putsFound f a b t n = firstBad (putsWithin (halves (f a) (f b) t) a (shifted a b)) n
 
 split-zero : (r : ℕ → Float) (a : ℕ) → splitRadii r a (a + 1) ≡ 0f
 unfolding splitRadii

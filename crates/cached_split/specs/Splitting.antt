@@ -7,13 +7,10 @@ use lib.ListN.{getD}
 use lib.Ieee.{Float}
 use Rattle.views.specs.View.{overwrite}
 use Rattle.real.specs.Limit.{inLimit}
-use Rattle.path.specs.declared.anchor.Anchor.{Anchor}
-use Rattle.path.specs.declared.limit.Found.{Found}
-use Rattle.path.specs.Limit.{firstBad}
 use Rattle.corner.specs.declared.cut.CornerKind.{CornerKind}
 use Rattle.cut.specs.declared.subpath.Sub.{Sub}
 use Rattle.cut.specs.Near.{old}
-use Rattle.edit.specs.Split.{halves, shifted, putsWithin, hasSegment}
+use Rattle.edit.specs.Split.{hasSegment}
 use Rattle.session.specs.Drawing.{Lent}
 use Rattle.cached.specs.declared.opening.Ready.the-variants.{Known}
 use Rattle.cached.specs.Opening.{readyOf}
@@ -27,10 +24,6 @@ pub record Begun (l : Lent) (kind s a : ℕ) (t : Float) (n : ℕ) (way : Corner
 -- a subpath with one anchor more
 abbrev pub grown : Sub → Sub
 grown sub = record { first = sub .first; n = sub .n + 1; closed = sub .closed }
-
--- the first of n places whose anchor, put there by a split between a and b, breaks the limit
-unfoldable pub putsFound : (ℕ → Anchor) → ℕ → ℕ → Float → ℕ → Found
-putsFound f a b t n = firstBad (putsWithin (halves (f a) (f b) t) a (shifted a b)) n
 
 -- the flags of n places, those after a one further on
 unfoldable pub shiftedFlags : List ℕ → ℕ → ℕ → List ℕ

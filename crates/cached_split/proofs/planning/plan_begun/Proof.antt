@@ -19,8 +19,8 @@ use Rattle.session.specs.Model.{lengthsOf}
 use Rattle.cut.proofs.Steps.{segment-cases}
 use Rattle.recutting.specs.Stretch.{Decides}
 use Rattle.cached.specs.Opening.{lent}
-use Rattle.cached_split.specs.Splitting.{grown, putsFound}
-use Rattle.cached_split.proofs.Splitting.{placed, seg, split-put-bad, halving, split-recut-bad, split-short, split-granted}
+use Rattle.cached_split.specs.Splitting.{grown}
+use Rattle.cached_split.proofs.Splitting.{putsFound, placed, seg, split-put-bad, halving, split-recut-bad, split-short, split-granted}
 use Rattle.cached_split.proofs.planning.plan_begun.Statement.{statement}
 use Rattle.cached_split.proofs.planning.plan_begun.Tie as tie
 
