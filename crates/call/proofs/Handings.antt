@@ -1,7 +1,7 @@
 -- What a path that was made comes to, and what is then answered and left. Assumes nothing.
 use mathlib.Core.Path.{◌≡◌, refl, sym, ap, ◌∙◌}
 use mathlib.Core.Logic.{⊎_elim}
-use mathlib.Core.Bool.{Bool, true, false, ◌&&◌}
+use mathlib.Core.Bool.{true, false}
 use mathlib.Core.List.{List}
 use Prim.Native.Nat.{ℕ, ◌+◌, ◌*◌, ◌≤◌, ◌<◌}
 use native.Mathlib.Omega.{arith}
@@ -11,7 +11,6 @@ use lib.Ieee.{Float, nan}
 use borrow.Author.Tests.{le-leb, lt-leb}
 use Rattle.views.specs.View.{entry, overwrite}
 use Rattle.views.proofs.Bools.{and_false}
-use Rattle.views.specs.Search.{all}
 use Rattle.views.proofs.Laws.{at_overwrite, overwrite_cong}
 use Rattle.views.proofs.Searches.{all_cong}
 use Rattle.real.specs.Limit.{in_limit}
@@ -28,18 +27,18 @@ use Rattle.call.specs.Answers.{outline_answer, list_left, anchors_left, handed_v
 use Rattle.call.proofs.Openings.{places_fail, places_pass}
 
 -- ---- room
-module _ (m count : ℕ) (toShapes : List ℕ) (to : List Float) where
-  pub room : m ≤ length toShapes → count * 6 ≤ length to → room_for m count toShapes to ≡ true
+module _ (m count : ℕ) (to_shapes : List ℕ) (to : List Float) where
+  pub room : m ≤ length to_shapes → count * 6 ≤ length to → room_for m count to_shapes to ≡ true
   unfolding room_for
   room h l = rw (le-leb _ _ h, le-leb _ _ l)
 
-  pub few_words : length toShapes < m → room_for m count toShapes to ≡ false
+  pub few_words : length to_shapes < m → room_for m count to_shapes to ≡ false
   unfolding room_for
   few_words h = rw (lt-leb _ _ h)
 
-  pub few_numbers : length to < count * 6 → room_for m count toShapes to ≡ false
+  pub few_numbers : length to < count * 6 → room_for m count to_shapes to ≡ false
   unfolding room_for
-  few_numbers h = rw (lt-leb _ _ h) (and_false (leb m (length toShapes)))
+  few_numbers h = rw (lt-leb _ _ h) (and_false (leb m (length to_shapes)))
 
 -- ---- what a verdict answers and leaves
 pub outline-refused : {v : Verdict} {n k : ℕ} (m count : ℕ) → v ≡ refused n k → Refused n k ≡ outline_answer v m count
@@ -67,30 +66,30 @@ unfolding anchors_left
 anchors_written ps xs e = rw e
 
 -- ---- a path in scratch lists: a number beyond the limit, a list too short, neither
-module _ (words : List ℕ) (made : List Float) (toShapes : List ℕ) (to : List Float) where
-  pub handed_bad : (k : ℕ) → Least (anchor_in made) (total words) k → handed_verdict words made toShapes to ≡ refused 9 k
+module _ (words : List ℕ) (made : List Float) (to_shapes : List ℕ) (to : List Float) where
+  pub handed_bad : (k : ℕ) → Least (anchor_in made) (total words) k → handed_verdict words made to_shapes to ≡ refused 9 k
   unfolding handed_verdict judge
   handed_bad k l = rw (places_fail (anchor_in made) (total words) passes k l)
 
   module _ (good : GoodBelow (anchor_in made) (total words)) where
-    pub handed-short : room_for (length words) (total words) toShapes to ≡ false → handed_verdict words made toShapes to ≡ refused 8 0
+    pub handed-short : room_for (length words) (total words) to_shapes to ≡ false → handed_verdict words made to_shapes to ≡ refused 8 0
     unfolding handed_verdict judge holds
     handed-short r = rw (places_pass (anchor_in made) (total words) passes good, r)
 
-    pub handed-all : room_for (length words) (total words) toShapes to ≡ true → handed_verdict words made toShapes to ≡ accepted
+    pub handed-all : room_for (length words) (total words) to_shapes to ≡ true → handed_verdict words made to_shapes to ≡ accepted
     unfolding handed_verdict judge holds
     handed-all r = rw (places_pass (anchor_in made) (total words) passes good, r)
 
   -- what is answered and left
-  module _ (n k : ℕ) (e : handed_verdict words made toShapes to ≡ refused n k) where
-    pub handed-refused : (Refused n k ≡ handed_answer words made toShapes to) × (toShapes ≡ handed_shapes words made toShapes to) × (to ≡ handed_anchors words made toShapes to)
+  module _ (n k : ℕ) (e : handed_verdict words made to_shapes to ≡ refused n k) where
+    pub handed-refused : (Refused n k ≡ handed_answer words made to_shapes to) × (to_shapes ≡ handed_shapes words made to_shapes to) × (to ≡ handed_anchors words made to_shapes to)
     unfolding handed_answer handed_shapes handed_anchors
     handed-refused = (outline-refused _ _ e, list_kept _ _ _ e, list_kept _ _ _ e)
 
-  module _ (e : handed_verdict words made toShapes to ≡ accepted) where
-    pub handed_accepted : (Accepted (length words) (total words) ≡ handed_answer words made toShapes to)
-        × (overwrite (length words) (λ i. get_or words i 0) toShapes ≡ handed_shapes words made toShapes to)
-        × (overwrite (total words * 6) (entry made) to ≡ handed_anchors words made toShapes to)
+  module _ (e : handed_verdict words made to_shapes to ≡ accepted) where
+    pub handed_accepted : (Accepted (length words) (total words) ≡ handed_answer words made to_shapes to)
+        × (overwrite (length words) (λ i. get_or words i 0) to_shapes ≡ handed_shapes words made to_shapes to)
+        × (overwrite (total words * 6) (entry made) to ≡ handed_anchors words made to_shapes to)
     unfolding handed_answer handed_shapes handed_anchors
     handed_accepted = (outline_accepted _ _ e, list_written _ _ _ e, list_written _ _ _ e)
 
@@ -115,14 +114,14 @@ module _ (ps : List Anchor) (xs : List Float) (long : length ps * 6 ≤ length x
       (λ kl. places_fail (anchor_in (listed ps xs)) (length ps) passes kl.0 kl.1 ∙ sym (places_fail (outline_in ps) (length ps) passes kl.0 (first_out_lem kl.0 kl.1)))
       (search_to (anchor_in (listed ps xs)) (length ps))
 
-  module _ (words : List ℕ) (made : List Float) (toShapes : List ℕ) (to : List Float) (e : made ≡ listed ps xs) (n : total words ≡ length ps) where
-    pub listed-verdict : handed_verdict words made toShapes to ≡ judge (outline_limit ps) 9 (judge (holds (room_for (length words) (length ps) toShapes to) 0) 8 accepted)
+  module _ (words : List ℕ) (made : List Float) (to_shapes : List ℕ) (to : List Float) (e : made ≡ listed ps xs) (n : total words ≡ length ps) where
+    pub listed-verdict : handed_verdict words made to_shapes to ≡ judge (outline_limit ps) 9 (judge (holds (room_for (length words) (length ps) to_shapes to) 0) 8 accepted)
     unfolding handed_verdict
     listed-verdict = rw (e, n, listed_limit)
 
-    pub listed_anchors : handed_anchors words made toShapes to ≡ anchors_left (handed_verdict words made toShapes to) ps to
+    pub listed_anchors : handed_anchors words made to_shapes to ≡ anchors_left (handed_verdict words made to_shapes to) ps to
     unfolding handed_anchors list_left anchors_left listed
-    listed_anchors = go (handed_verdict words made toShapes to)
+    listed_anchors = go (handed_verdict words made to_shapes to)
       where
         go : (v : Verdict) → list_left v (total words * 6) (entry made) to ≡ anchors_left v ps to
         go (refused c k) = refl

@@ -11,9 +11,8 @@ use lib.ListN.{length}
 use lib.Ieee.{Float}
 use borrow.Author.Tests.{leb-true, le-leb, lt-leb, lt-ltb, le-ltb}
 use Rattle.views.proofs.Searches.{first_all, first_at}
-use Rattle.views.proofs.Bools.{and_false}
 use Rattle.refusal.specs.Order.{Test, passes, fails, holds, judge, Verdict, accepted, refused}
-use Rattle.refusal.proofs.Verdicts.{holds_true, holds_false}
+use Rattle.refusal.proofs.Verdicts.{holds_true}
 use Rattle.path.specs.declared.shape.Sized.TheVariants.{Wrong}
 use Rattle.path.specs.declared.shape.Sized.TheVariants as sized
 use Rattle.path.specs.Shape.{total, sized_of}

@@ -1,5 +1,5 @@
 -- What a call that makes a path answers, and what it leaves in the lists lent for it. Assumes nothing.
-use Rattle.std.specs.Prelude.{ℕ, ◌*◌, Bool, List, length, get_or, Float}
+use Rattle.std.specs.Prelude.{ℕ, ◌*◌, List, length, get_or, Float}
 use Rattle.views.specs.View.{entry, overwrite}
 use Rattle.refusal.specs.Order.{passes, holds, judge, Verdict, accepted, refused}
 use Rattle.path.specs.declared.anchor.Anchor.{Anchor}
@@ -27,14 +27,14 @@ anchors_left (refused n place) ps xs = xs
 
 -- ---- a path that stands in scratch lists, handed over to lent ones: what is still tested, answered and left
 unfoldable pub handed_verdict : List ℕ → List Float → List ℕ → List Float → Verdict
-handed_verdict words made toShapes to =
-    judge (places (anchor_in made) (total words) passes) 9 (judge (holds (room_for (length words) (total words) toShapes to) 0) 8 accepted)
+handed_verdict words made to_shapes to =
+    judge (places (anchor_in made) (total words) passes) 9 (judge (holds (room_for (length words) (total words) to_shapes to) 0) 8 accepted)
 
 unfoldable pub handed_answer : List ℕ → List Float → List ℕ → List Float → Outline
-handed_answer words made toShapes to = outline_answer (handed_verdict words made toShapes to) (length words) (total words)
+handed_answer words made to_shapes to = outline_answer (handed_verdict words made to_shapes to) (length words) (total words)
 
 unfoldable pub handed_shapes : List ℕ → List Float → List ℕ → List Float → List ℕ
-handed_shapes words made toShapes to = list_left (handed_verdict words made toShapes to) (length words) (λ i. get_or words i 0) toShapes
+handed_shapes words made to_shapes to = list_left (handed_verdict words made to_shapes to) (length words) (λ i. get_or words i 0) to_shapes
 
 unfoldable pub handed_anchors : List ℕ → List Float → List ℕ → List Float → List Float
-handed_anchors words made toShapes to = list_left (handed_verdict words made toShapes to) (total words * 6) (entry made) to
+handed_anchors words made to_shapes to = list_left (handed_verdict words made to_shapes to) (total words * 6) (entry made) to

@@ -37,7 +37,7 @@ outline_limit ps = places (outline_in ps) (length ps) passes
 
 -- ---- 8: the lent lists are long enough for m shape words and so many anchors
 unfoldable pub room_for : ℕ → ℕ → List ℕ → List Float → Bool
-room_for m count toShapes to = leb m (length toShapes) && leb (count * 6) (length to)
+room_for m count to_shapes to = leb m (length to_shapes) && leb (count * 6) (length to)
 
 -- ---- 7, then 5 without loose arguments: how many anchors, or the refusal
 unfoldable pub opened : Verdict → ℕ → Opened

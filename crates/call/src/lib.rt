@@ -1,4 +1,6 @@
 // What the calls on paths share: how a path that is given is tested, what such a call answers, and how a path that was made is handed over.
+#![tactic(auto)]
+
 mod answers;
 mod handing;
 mod opening;

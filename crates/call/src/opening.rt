@@ -5,7 +5,7 @@ ghost use Rattle.call.specs.Tests.{opened_path, opened_drawing};
 use path::{Found, Sized};
 
 // A refusal's number and place, or how many anchors the path has.
-#[derive(Drop)]
+#[derive(Clone, Copy)]
 pub enum Opened {
     Refused(u32, usize),
     Anchors(usize),

@@ -1,7 +1,5 @@
 -- `split_cubic` is de Casteljau's subdivision at four control points. Assumes nothing.
 use mathlib.Core.Path.{◌≡◌, refl}
-use mathlib.Core.List.{List, [], ◌∷◌}
-use lib.ListN.{length}
 use lib.Ieee.{Float}
 use Rattle.views.specs.View.{tabulate}
 use Rattle.geom.specs.declared.point.P.{P}

@@ -1,5 +1,5 @@
 -- Cubics of four control points, after 000's `cubic_at`, `deriv_at`, `split_cubic` and `subsegment`. Assumes nothing.
-use Rattle.std.specs.Prelude.{ℕ, cond, List, [], ◌∷◌, Float}
+use Rattle.std.specs.Prelude.{cond, List, [], ◌∷◌, Float}
 use Rattle.std.specs.Float.{binary64}
 use Rattle.std.specs.Float.Ieee.{of_bits, le}
 use Rattle.real.specs.Operators.{◌⊖◌, ◌⊗◌, ◌⊘◌, 0f, 1f, 3f, 6f}

@@ -1,4 +1,6 @@
 // Cubic Bézier curves, after 000 (bezier.rs): a curve is its four control points.
+#![tactic(auto)]
+
 mod limits;
 mod sampling;
 mod subdivision;

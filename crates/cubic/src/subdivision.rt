@@ -5,7 +5,7 @@ ghost use Rattle.cubic.specs.Cubic.{split_cubic, subsegment};
 use geom::P;
 
 // A cubic split in two.
-#[derive(Drop)]
+#[derive(Clone, Copy)]
 pub struct Halves {
     pub before: [P; 4],
     pub after: [P; 4],

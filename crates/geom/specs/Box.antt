@@ -1,5 +1,5 @@
 -- A box that grows by one point at a time, after 001's `Bounds`. Assumes nothing.
-use Rattle.std.specs.Prelude.{Bool, true, false, Float}
+use Rattle.std.specs.Prelude.{Bool, true, false}
 use Rattle.std.specs.Float.{inf}
 use Rattle.std.specs.Float.Ieee.{lt}
 use Rattle.real.specs.StandIns.{max, min}

@@ -4,7 +4,7 @@ ghost use Rattle.geom.specs.Box.{no_point, grown, is_empty};
 
 use crate::point::P;
 
-#[derive(Drop)]
+#[derive(Clone, Copy)]
 pub struct Bounds {
     pub min: P,
     pub max: P,

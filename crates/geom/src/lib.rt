@@ -1,4 +1,6 @@
 // Points, affine maps and boxes in the plane, after 001 (geom.rs): every operation rounds by itself, in 001's order.
+#![tactic(auto)]
+
 mod affine;
 mod bounds;
 mod point;

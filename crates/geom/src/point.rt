@@ -2,7 +2,7 @@
 ghost use Rattle.std.specs.Prelude.{◌≡◌};
 ghost use Rattle.geom.specs.Point.{point, plus, minus, times, point_in, same, dot, cross, len, dist, lerp};
 
-#[derive(Drop)]
+#[derive(Clone, Copy)]
 pub struct P {
     pub x: f64,
     pub y: f64,

@@ -6,7 +6,7 @@ ghost use Rattle.path.specs.Limit.{anchor_good};
 use crate::distance::short;
 use geom::{P, cross};
 
-#[derive(Drop)]
+#[derive(Clone, Copy)]
 pub struct Anchor {
     pub p: P,
     pub h_in: P,

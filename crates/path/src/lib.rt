@@ -1,4 +1,6 @@
 // Paths: anchors with handles, after 000, and document 01's flat form of a path, shape words and six numbers an anchor.
+#![tactic(auto)]
+
 mod anchor;
 mod distance;
 mod flat;

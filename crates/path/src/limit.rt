@@ -8,7 +8,7 @@ ghost use Rattle.path.specs.Limit.{within_limit, anchor_in, place_in, first_bad}
 
 use crate::shape::{count_of, total_of};
 
-#[derive(Drop)]
+#[derive(Clone, Copy)]
 pub enum Found {
     At(usize),
     Nothing,

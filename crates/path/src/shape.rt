@@ -26,7 +26,7 @@ pub fn word(n: usize, closed: bool) -> u32
 }
 
 // An anchor by its subpath and its index there; also the segment that starts at it.
-#[derive(Drop)]
+#[derive(Clone, Copy)]
 pub struct AnchorRef {
     pub subpath: usize,
     pub anchor: usize,
@@ -72,7 +72,7 @@ pub fn next(n: usize, i: usize) -> usize
 }
 
 // The anchors of a path that is not too large, or that it is.
-#[derive(Drop)]
+#[derive(Clone, Copy)]
 pub enum Sized {
     Anchors(usize),
     Wrong,

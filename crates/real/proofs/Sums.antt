@@ -10,7 +10,7 @@ use lib.Pow.{pow-add, pow_pos, pow-lt, pow_mono, shl_lt}
 use lib.IntN.{ℤ, pos, negsuc}
 use lib.Ieee.{Float, nan, inf, fin, Format, prec, emax, low, up, down, unlike, is_nan, odd, units, round, sum, add, mul, lt, le, fits}
 use lib.Ieee.Scale.{finite}
-use lib.Ieee.Fits.{two, reach, down_pos, and_l, and_r}
+use lib.Ieee.Fits.{reach, down_pos, and_l, and_r}
 use lib.Ieee.Digits.{back}
 use lib.Ieee.Exact.{HasValue, round_exact}
 use lib.Ieee.Order.{le_of_values, round_mono}

@@ -1,4 +1,6 @@
 // What Rattle's f64 lacks: document 01's stand-ins for Rust's methods, and its limit on every number of a drawing.
+#![tactic(auto)]
+
 ghost use Rattle.std.specs.Prelude.{◌≡◌};
 ghost use Rattle.real.specs.StandIns.{max, min, clamp, abs};
 ghost use Rattle.real.specs.Limit.{in_limit};

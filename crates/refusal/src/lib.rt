@@ -1,5 +1,6 @@
 // The numbers of document 01's refusals of the calls on outlines ('Who can cause a refusal'). A refusal is a number and a place.
 // specs/Order.antt has the order in which every call tests for them.
+#![tactic(auto)]
 
 // A list has too many entries, or too few for what it stands for.
 pub const LISTS: u32 = 7;

@@ -1,5 +1,7 @@
 // Lists as functions of the index, searches and counts: the words that every loop's contract is said in (specs/, with their laws in
 // proofs/), and the two copies that every call ends with.
+#![tactic(auto)]
+
 ghost use Rattle.std.specs.Prelude.{◌≡◌, ◌≤◌, length, get_or};
 ghost use Rattle.views.specs.View.{entry, overwrite};
 

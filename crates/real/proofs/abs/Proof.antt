@@ -7,16 +7,16 @@ use Rattle.real.proofs.abs.Statement.{statement}
 use Rattle.real.proofs.abs.Tie as tie
 
 held : (c : tie.Start) → T (fits binary64 c.args.x)
-held c = subst T (sym c.well-formed.0.1) tt
+held c = subst T (sym c.well_formed.0.1) tt
 
-returns : tie.Need-returns
-returns c = abs_below _ c.if1.true
+returns : tie.Need-returns-then-x
+returns c = abs_below _ c.if-x.true
 
-returns-2 : tie.Need-returns-2
-returns-2 c = abs-zero _ (held c.before.before) c.if2.true
+returns-2 : tie.Need-returns-then-x-2
+returns-2 c = abs-zero _ (held c.before.before) c.if-x-2.true
 
-returns-3 : tie.Need-returns-3
-returns-3 c = abs_above _ c.before.if1.false c.if2.false
+returns-3 : tie.Need-returns
+returns-3 c = abs_above _ c.before.if-x.false c.if-x-2.false
 
-pub abs-spec : {M : Type 1} → statement M
-abs-spec = tie.close (tie.spec returns returns-2 returns-3)
+pub abs_spec : {M : Type 1} → statement M
+abs_spec = tie.close (tie.spec returns returns-2 returns-3)

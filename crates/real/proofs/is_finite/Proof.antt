@@ -7,11 +7,11 @@ use Rattle.real.specs.Finite.{is_finite}
 use Rattle.real.proofs.is_finite.Statement.{statement}
 use Rattle.real.proofs.is_finite.Tie as tie
 
-low : tie.Need-float-from-bits-low
+low : tie.Need-float_from_bits-low
 unfolding nan_bits
 low c = search rules
 
-high : tie.Need-float-from-bits-high
+high : tie.Need-float_from_bits-high
 unfolding nan_bits
 high c = search rules
 
@@ -28,13 +28,13 @@ not_above nan h = refl
 not_above (inf s) h = refl
 not_above (fin s m e) h = absurd (true≢false h)
 
-returns : tie.Need-returns
+returns : tie.Need-returns-then-low-x
 unfolding of_bits
-returns c = below _ c.if1.true
+returns c = below _ c.if-low-x.true
 
-returns-2 : tie.Need-returns-2
+returns-2 : tie.Need-returns-else-low-x
 unfolding of_bits
-returns-2 c = c.if1.false ∙ not_above _ c.if1.false
+returns-2 c = c.if-low-x.false ∙ not_above _ c.if-low-x.false
 
-pub is-finite-spec : {M : Type 1} → statement M
-is-finite-spec = tie.close (tie.spec low high returns returns-2)
+pub is_finite_spec : {M : Type 1} → statement M
+is_finite_spec = tie.close (tie.spec low high returns returns-2)

@@ -3,13 +3,13 @@ use Rattle.real.specs.StandIns.{min}
 use Rattle.real.proofs.min.Statement.{statement}
 use Rattle.real.proofs.min.Tie as tie
 
-returns : tie.Need-returns
+returns : tie.Need-returns-then-a-b
 unfolding min
-returns c = rw c.if1.true
+returns c = rw c.if-a-b.true
 
-returns-2 : tie.Need-returns-2
+returns-2 : tie.Need-returns-else-a-b
 unfolding min
-returns-2 c = rw c.if1.false
+returns-2 c = rw c.if-a-b.false
 
-pub min-spec : {M : Type 1} → statement M
-min-spec = tie.close (tie.spec returns returns-2)
+pub min_spec : {M : Type 1} → statement M
+min_spec = tie.close (tie.spec returns returns-2)

@@ -9,5 +9,5 @@ returns c =
     let e = made_even c.args.m c.args.p (omega arith) (omega arith) (omega arith) (omega arith) in
     (refl, e.low, e.high)
 
-pub evened-spec : {M : Type 1} → statement M
-evened-spec = tie.close (tie.spec (λ c. search rules) (λ c. search rules) returns)
+pub evened_spec : {M : Type 1} → statement M
+evened_spec = tie.close (tie.spec (λ c. search rules) (λ c. search rules) returns)

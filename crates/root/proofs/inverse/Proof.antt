@@ -4,13 +4,13 @@ use lib.Bits.{mask_lt}
 use Rattle.root.proofs.inverse.Statement.{statement}
 use Rattle.root.proofs.inverse.Tie as tie
 
-pub inverse-spec : {M : Type 1} → statement M
-inverse-spec =
+pub inverse_spec : {M : Type 1} → statement M
+inverse_spec =
     tie.close
     (tie.spec
     (λ c κs. search rules)
-    (λ c. omega (arith, mul-le-mul (le_of_lt (mask_lt c.parabola.result 16)) (le_of_lt (mask_lt (c.before.args.b / 2 ^ 32) 16))))
+    (λ c. omega (arith, mul-le-mul (le_of_lt (mask_lt c.parabola-t.result 16)) (le_of_lt (mask_lt (c.before.args.b / 2 ^ 32) 16))))
     (λ c κs. search rules)
-    (λ c. omega (arith, mul-le-mul (le_of_lt c.lower.ensures) (le_of_lt (mask_lt (c.before.before.args.b / 2 ^ 32) 16))))
+    (λ c. omega (arith, mul-le-mul (le_of_lt c.lower-slope.ensures) (le_of_lt (mask_lt (c.before.before.args.b / 2 ^ 32) 16))))
     (λ c κs. search rules)
     (λ c. search rules))

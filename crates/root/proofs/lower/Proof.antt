@@ -5,4 +5,4 @@ use Rattle.root.proofs.lower.Statement.{statement}
 use Rattle.root.proofs.lower.Tie as tie
 
 pub lower_spec : {M : Type 1} → statement M
-lower_spec = tie.close (tie.spec (λ c κs. search rules) (λ c. mask_lt c.wrapping-sub-u64.result 32))
+lower_spec = tie.close (tie.spec (λ c κs. search rules) (λ c. mask_lt c.wrapping_sub_u64.result 32))

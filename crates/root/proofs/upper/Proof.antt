@@ -4,8 +4,8 @@ use Rattle.root.proofs.Exact.{halves}
 use Rattle.root.proofs.upper.Statement.{statement}
 use Rattle.root.proofs.upper.Tie as tie
 
-pub upper-spec : {M : Type 1} → statement M
-upper-spec =
+pub upper_spec : {M : Type 1} → statement M
+upper_spec =
     tie.close
     (tie.spec
     (λ c. omega (arith, halves c.requires.0 c.requires.1))

@@ -11,24 +11,24 @@ use Rattle.views.proofs.Laws.{fill_more, keep_more, as_overwrite}
 use Rattle.views.proofs.copy.Statement.{statement}
 use Rattle.views.proofs.copy.Tie as tie
 
-abbrev invariant-loop : tie.invariant-loop
+abbrev invariant-loop : tie.invariant-loop-i
 invariant-loop from n to₀ i₀ to i =
     (i ≤ n) × (length to ≡ length to₀) × ((j : ℕ) → j < i → entry to j ≡ entry from j) × ((j : ℕ) → i ≤ j → entry to j ≡ entry to₀ j)
 
-abbrev decreases-loop : tie.decreases-loop
+abbrev decreases-loop : tie.decreases-loop-i
 decreases-loop from n to₀ i₀ to i = n - i
 
-loop-again : tie.Need-loop-preserved invariant-loop decreases-loop
+loop-again : tie.Need-loop-i-preserved invariant-loop decreases-loop
 loop-again c =
     let a = c.before.before.before.args in
-    let l = c.before.before.loop in
+    let l = c.before.before.loop-i in
     let v = entry a.from.now l.i in
     (omega arith, simp length-set l.invariant.1, fill_more nan l.to l.i v _ (omega arith) l.invariant.2 refl, keep_more nan l.to l.i v a.to.now l.invariant.3)
 
 returns : tie.Need-returns invariant-loop decreases-loop
 returns c =
     let a = c.before.before.args in
-    let l = c.before.loop in
+    let l = c.before.loop-i in
     as_overwrite nan l.to a.to.now a.n _ l.invariant.1 (λ j h. l.invariant.2 j (omega arith)) (λ j h. l.invariant.3 j (omega arith))
 
 pub copy_spec : {M : Type 1} → statement M

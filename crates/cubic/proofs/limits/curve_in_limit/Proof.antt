@@ -5,7 +5,6 @@ use Prim.Native.Nat.{ℕ, ◌-◌, ◌≤◌, ◌<◌}
 use native.Mathlib.Omega.{arith}
 use borrow.Author.Count.{below_none, below_more}
 use borrow.Author.Rules.{rules}
-use borrow.Author.Tests.{not-true, not-false}
 use Rattle.views.proofs.Searches.{all_true, all_false}
 use Rattle.geom.specs.Flat.{pt}
 use Rattle.geom.specs.Point.{point_in}
@@ -13,29 +12,29 @@ use Rattle.cubic.specs.Limits.{curve_in}
 use Rattle.cubic.proofs.limits.curve_in_limit.Statement.{statement}
 use Rattle.cubic.proofs.limits.curve_in_limit.Tie as tie
 
-abbrev invariant-loop : tie.invariant-loop
+abbrev invariant-loop : tie.invariant-loop-k
 invariant-loop c k₀ k = (k ≤ 4) × ((j : ℕ) → j < k → point_in (pt c j) ≡ true)
 
-abbrev decreases-loop : tie.decreases-loop
+abbrev decreases-loop : tie.decreases-loop-k
 decreases-loop c k₀ k = 4 - k
 
-returns : tie.Need-returns invariant-loop decreases-loop
+returns : tie.Need-returns-then-not-in_limit invariant-loop decreases-loop
 unfolding curve_in
 returns c =
-    let l = c.before.before.before.before.loop in
-    sym (all_false _ 4 l.k (omega arith) (sym c.before.in_limit_lem.ensures ∙ not-true _ c.if1.true))
+    let l = c.before.before.before.before.loop-k in
+    sym (all_false _ 4 l.k (omega arith) (sym c.before.in_limit.ensures ∙ c.if-not-in_limit.true))
 
-loop-again : tie.Need-loop-preserved invariant-loop decreases-loop
+loop-again : tie.Need-loop-k-preserved invariant-loop decreases-loop
 loop-again c =
-    let l = c.before.before.before.before.loop in
-    (omega arith, below_more _ _ l.invariant.1 (sym c.before.in_limit_lem.ensures ∙ not-false _ c.if1.false))
+    let l = c.before.before.before.before.loop-k in
+    (omega arith, below_more _ _ l.invariant.1 (sym c.before.in_limit.ensures ∙ c.if-not-in_limit.false))
 
-returns-2 : tie.Need-returns-2 invariant-loop decreases-loop
+returns-2 : tie.Need-returns invariant-loop decreases-loop
 unfolding curve_in
-returns-2 c = sym (all_true _ 4 (λ j h. c.before.loop.invariant.1 j (omega arith)))
+returns-2 c = sym (all_true _ 4 (λ j h. c.before.loop-k.invariant.1 j (omega arith)))
 
-pub curve-in-limit-spec : {M : Type 1} → statement M
-curve-in-limit-spec =
+pub curve_in_limit_spec : {M : Type 1} → statement M
+curve_in_limit_spec =
     tie.close
     (tie.spec
     invariant-loop

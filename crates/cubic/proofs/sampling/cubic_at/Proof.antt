@@ -9,10 +9,10 @@ unfolding cubic_at
 returns c =
     let d = c.before.before.before in
     let e = d.before.before.before in
-    rw (c.add3.ensures, c.before.mul4.ensures, d.add2.ensures, d.before.mul3.ensures, e.add.ensures, e.before.mul2.ensures, e.before.before.before.mul.ensures)
+    rw (c.add-2.ensures, c.before.mul-4.ensures, d.add.ensures, d.before.mul-3.ensures, e.add-a.ensures, e.before.mul-2.ensures, e.before.before.before.mul.ensures)
 
-pub cubic-at-spec : {M : Type 1} → statement M
-cubic-at-spec =
+pub cubic_at_spec : {M : Type 1} → statement M
+cubic_at_spec =
     tie.close
     (tie.spec
     (λ c. search rules)

@@ -9,10 +9,10 @@ unfolding deriv_at
 returns c =
     let d = c.before.before.before.before.before in
     let e = d.before.before.before.before.before in
-    rw (c.add2.ensures, c.before.mul3.ensures, c.before.before.sub3.ensures, d.add.ensures, d.before.mul2.ensures, d.before.before.sub2.ensures, e.mul.ensures, e.before.sub.ensures)
+    rw (c.add-2.ensures, c.before.mul.ensures, c.before.before.sub-3.ensures, d.add.ensures, d.before.mul-b.ensures, d.before.before.sub-2.ensures, e.mul-a.ensures, e.before.sub.ensures)
 
-pub deriv-at-spec : {M : Type 1} → statement M
-deriv-at-spec =
+pub deriv_at_spec : {M : Type 1} → statement M
+deriv_at_spec =
     tie.close
     (tie.spec
     (λ c. search rules)

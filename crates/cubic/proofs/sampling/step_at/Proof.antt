@@ -3,25 +3,24 @@ use Prim.Native.Nat.{◌^◌}
 use native.Mathlib.Omega.{arith}
 use lib.Dec.{le→leb}
 use lib.Ieee.{in_float}
-use borrow.Author.Rules.{rules}
 use Rattle.cubic.specs.Sample.{step_at}
 use Rattle.cubic.proofs.sampling.step_at.Statement.{statement}
 use Rattle.cubic.proofs.sampling.step_at.Tie as tie
 
 returns : tie.Need-returns
 unfolding step_at
-returns c = c.cubic-at.ensures
+returns c = c.cubic_at.ensures
 
-whole : tie.Need-int-to-float-cubic-at
+whole : tie.Need-int_to_float-k
 unfolding in_float
 whole c = le→leb c.before.args.k (2 ^ 53) (omega arith)
 
-whole-2 : tie.Need-int-to-float-cubic-at-2
+whole-2 : tie.Need-int_to_float-n
 unfolding in_float
 whole-2 c = le→leb c.before.before.args.n (2 ^ 53) (omega arith)
 
-pub step-at-spec : {M : Type 1} → statement M
-step-at-spec =
+pub step_at_spec : {M : Type 1} → statement M
+step_at_spec =
     tie.close
     (tie.spec
     whole

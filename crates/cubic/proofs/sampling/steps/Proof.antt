@@ -4,24 +4,24 @@ use Rattle.cubic.specs.Sample.{steps}
 use Rattle.cubic.proofs.sampling.steps.Statement.{statement}
 use Rattle.cubic.proofs.sampling.steps.Tie as tie
 
-returns : tie.Need-returns
+returns : tie.Need-returns-then-straight
 unfolding steps
-returns c = rw (rw c.before.straight.ensures at c.if1.true)
+returns c = rw (rw c.before.straight.ensures at c.if-straight.true)
 
-returns-2 : tie.Need-returns-2
+returns-2 : tie.Need-returns-then-n-lt1
 unfolding steps
 returns-2 c =
     let d = c.before in
-    rw (rw d.before.straight.ensures at d.if1.false, lt-ltb _ _ c.if2.true)
+    rw (rw d.before.straight.ensures at d.if-straight.false, lt-ltb _ _ c.if-n-lt1.true)
 
-returns-3 : tie.Need-returns-3
+returns-3 : tie.Need-returns
 unfolding steps
 returns-3 c =
     let d = c.before in
-    rw (rw d.before.straight.ensures at d.if1.false, le-ltb _ _ c.if2.false)
+    rw (rw d.before.straight.ensures at d.if-straight.false, le-ltb _ _ c.if-n-lt1.false)
 
-pub steps-spec : {M : Type 1} → statement M
-steps-spec =
+pub steps_spec : {M : Type 1} → statement M
+steps_spec =
     tie.close
     (tie.spec
     (λ c κs. tt)

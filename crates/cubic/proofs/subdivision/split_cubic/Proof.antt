@@ -10,10 +10,10 @@ returns c =
     let m = c.before.before in
     let k = m.before.before.before in
     let e = k.before.before.before in
-    rw (m.lerp6.ensures, m.before.lerp5.ensures, m.before.before.lerp4.ensures, k.lerp3.ensures, e.lerp2.ensures, e.before.before.before.lerp.ensures)
+    rw (m.lerp-m.ensures, m.before.lerp-p123.ensures, m.before.before.lerp-p012.ensures, k.lerp-p23.ensures, e.lerp-p12.ensures, e.before.before.before.lerp-p01.ensures)
 
-pub split-cubic-spec : {M : Type 1} → statement M
-split-cubic-spec =
+pub split_cubic_spec : {M : Type 1} → statement M
+split_cubic_spec =
     tie.close
     (tie.spec
     (λ c. search rules)

@@ -7,5 +7,5 @@ use Rattle.path.proofs.distance.beyond.Tie as tie
 returns : tie.Need-returns
 returns c = rw c.dot.ensures (sym (beyond-is c.before.args.d))
 
-pub beyond-spec : {M : Type 1} → statement M
-beyond-spec = tie.close (tie.spec (λ c κs. tt) returns)
+pub beyond_spec : {M : Type 1} → statement M
+beyond_spec = tie.close (tie.spec (λ c κs. tt) returns)

@@ -7,5 +7,5 @@ use Rattle.path.proofs.distance.short.Tie as tie
 returns : tie.Need-returns
 returns c = rw c.dot.ensures (sym (short-is c.before.args.d))
 
-pub short-spec : {M : Type 1} → statement M
-short-spec = tie.close (tie.spec (λ c κs. tt) returns)
+pub short_spec : {M : Type 1} → statement M
+short_spec = tie.close (tie.spec (λ c κs. tt) returns)

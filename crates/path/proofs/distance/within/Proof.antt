@@ -7,5 +7,5 @@ use Rattle.path.proofs.distance.within.Tie as tie
 returns : tie.Need-returns
 returns c = rw c.dot.ensures (sym (within-is c.before.args.d))
 
-pub within-spec : {M : Type 1} → statement M
-within-spec = tie.close (tie.spec (λ c κs. tt) returns)
+pub within_spec : {M : Type 1} → statement M
+within_spec = tie.close (tie.spec (λ c κs. tt) returns)

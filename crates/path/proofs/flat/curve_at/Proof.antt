@@ -15,10 +15,10 @@ returns : tie.Need-returns
 unfolding curve_of
 returns c =
     let t = c.before in
-    rw (c.cubic.ensures, t.anchor-at2.ensures, t.before.next.ensures, t.before.before.anchor-at.ensures)
+    rw (c.cubic.ensures, t.anchor_at-to.ensures, t.before.next.ensures, t.before.before.anchor_at-from.ensures)
 
-pub curve-at-spec : {M : Type 1} → statement M
-curve-at-spec =
+pub curve_at_spec : {M : Type 1} → statement M
+curve_at_spec =
     tie.close
     (tie.spec
     (λ c. search rules)

@@ -8,8 +8,8 @@ use Rattle.path.proofs.flat.put_anchor.Tie as tie
 returns : tie.Need-returns
 returns c = refl
 
-pub put-anchor-spec : {M : Type 1} → statement M
-put-anchor-spec =
+pub put_anchor_spec : {M : Type 1} → statement M
+put_anchor_spec =
     tie.close
     (tie.spec
     (λ c. omega arith)

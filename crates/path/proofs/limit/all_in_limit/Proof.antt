@@ -7,7 +7,7 @@ use Rattle.path.proofs.limit.all_in_limit.Statement.{statement}
 use Rattle.path.proofs.limit.all_in_limit.Tie as tie
 
 returns : tie.Need-returns
-returns c = c.all-within.ensures ∙ all_cong _ _ _ (λ k l. within-is _)
+returns c = c.all_within.ensures ∙ all_cong _ _ _ (λ k l. within-is _)
 
-pub all-in-limit-spec : {M : Type 1} → statement M
-all-in-limit-spec = tie.close (tie.spec (λ c κs. search rules) returns)
+pub all_in_limit_spec : {M : Type 1} → statement M
+all_in_limit_spec = tie.close (tie.spec (λ c κs. search rules) returns)

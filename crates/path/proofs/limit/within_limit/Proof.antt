@@ -3,13 +3,13 @@ use Rattle.path.specs.Limit.{within_limit}
 use Rattle.path.proofs.limit.within_limit.Statement.{statement}
 use Rattle.path.proofs.limit.within_limit.Tie as tie
 
-returns : tie.Need-returns
+returns : tie.Need-returns-then-limit-x
 unfolding within_limit
-returns c = rw c.if1.true
+returns c = rw c.if-limit-x.true
 
-returns-2 : tie.Need-returns-2
+returns-2 : tie.Need-returns-else-limit-x
 unfolding within_limit
-returns-2 c = rw c.if1.false
+returns-2 c = rw c.if-limit-x.false
 
-pub within-limit-spec : {M : Type 1} → statement M
-within-limit-spec = tie.close (tie.spec returns returns-2)
+pub within_limit_spec : {M : Type 1} → statement M
+within_limit_spec = tie.close (tie.spec returns returns-2)

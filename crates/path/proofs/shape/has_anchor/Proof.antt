@@ -7,13 +7,13 @@ use Rattle.path.specs.Shape.{has_anchor}
 use Rattle.path.proofs.shape.has_anchor.Statement.{statement}
 use Rattle.path.proofs.shape.has_anchor.Tie as tie
 
-returns : tie.Need-returns
+returns : tie.Need-returns-then-shapes-s
 unfolding has_anchor
 returns c = let a = c.before.before.args in rw (le-ltb a.s (length a.shapes.now) (omega arith))
 
-returns-2 : tie.Need-returns-2
+returns-2 : tie.Need-returns
 unfolding has_anchor
 returns-2 c = let a = c.before.before.before.before.args in rw (lt-ltb a.s (length a.shapes.now) (omega arith), ← c.count_of.ensures)
 
-pub has-anchor-spec : {M : Type 1} → statement M
-has-anchor-spec = tie.close (tie.spec returns (λ c. search rules) (λ c. search rules) (λ c κs. tt) returns-2)
+pub has_anchor_spec : {M : Type 1} → statement M
+has_anchor_spec = tie.close (tie.spec returns (λ c. search rules) (λ c. search rules) (λ c κs. tt) returns-2)

@@ -5,13 +5,13 @@ use Rattle.path.specs.Shape.{next}
 use Rattle.path.proofs.shape.next.Statement.{statement}
 use Rattle.path.proofs.shape.next.Tie as tie
 
-returns : tie.Need-returns
+returns : tie.Need-returns-then-i-n
 unfolding next
-returns c = rw (lt-ltb _ _ c.if1.true)
+returns c = rw (lt-ltb _ _ c.if-i-n.true)
 
-returns-2 : tie.Need-returns-2
+returns-2 : tie.Need-returns-else-i-n
 unfolding next
-returns-2 c = rw (le-ltb _ _ c.if1.false)
+returns-2 c = rw (le-ltb _ _ c.if-i-n.false)
 
-pub next-spec : {M : Type 1} → statement M
-next-spec = tie.close (tie.spec (λ c. search rules) (λ c. search rules) returns returns-2)
+pub next_spec : {M : Type 1} → statement M
+next_spec = tie.close (tie.spec (λ c. search rules) (λ c. search rules) returns returns-2)

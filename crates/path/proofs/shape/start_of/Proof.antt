@@ -5,11 +5,11 @@ use lib.ListN.{length-take}
 use Rattle.path.proofs.shape.start_of.Statement.{statement}
 use Rattle.path.proofs.shape.start_of.Tie as tie
 
-total-of-arg : tie.Need-slice-aggregate-total-of
+total-of-arg : tie.Need-slice_bounds-total_of-end
 total-of-arg c = simp length-take (omega arith)
 
-total-of-requires : tie.Need-total-of-requires
+total-of-requires : tie.Need-total_of-requires
 total-of-requires c κs = simp length-take (omega arith)
 
-pub start-of-spec : {M : Type 1} → statement M
-start-of-spec = tie.close (tie.spec total-of-arg total-of-requires (λ c. search rules))
+pub start_of_spec : {M : Type 1} → statement M
+start_of_spec = tie.close (tie.spec total-of-arg total-of-requires (λ c. search rules))

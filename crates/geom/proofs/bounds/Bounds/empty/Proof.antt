@@ -6,11 +6,11 @@ use Rattle.geom.specs.Box.{no_point}
 use Rattle.geom.proofs.bounds.Bounds.empty.Statement.{statement}
 use Rattle.geom.proofs.bounds.Bounds.empty.Tie as tie
 
-up : tie.Need-float-from-bits-up
+up : tie.Need-float_from_bits-up
 unfolding nan_bits
 up c = search rules
 
-down : tie.Need-float-from-bits-down
+down : tie.Need-float_from_bits-down
 unfolding nan_bits
 down c = search rules
 
@@ -18,5 +18,5 @@ returns : tie.Need-returns
 unfolding of_bits no_point
 returns c = refl
 
-pub empty-spec : {M : Type 1} → statement M
-empty-spec = tie.close (tie.spec up down returns)
+pub empty_spec : {M : Type 1} → statement M
+empty_spec = tie.close (tie.spec up down returns)

@@ -7,5 +7,5 @@ returns : tie.Need-returns
 unfolding dist
 returns c = rw (c.len.ensures, c.before.sub.ensures)
 
-pub dist-spec : {M : Type 1} → statement M
-dist-spec = tie.close (tie.spec (λ c κs. tt) (λ c κs. tt) returns)
+pub dist_spec : {M : Type 1} → statement M
+dist_spec = tie.close (tie.spec (λ c κs. tt) (λ c κs. tt) returns)

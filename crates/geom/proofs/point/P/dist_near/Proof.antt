@@ -5,7 +5,7 @@ use Rattle.geom.proofs.point.P.dist_near.Tie as tie
 
 returns : tie.Need-returns
 unfolding dist
-returns c = rw (c.len-near.ensures, c.before.sub.ensures)
+returns c = rw (c.len_near.ensures, c.before.sub.ensures)
 
-pub dist-near-spec : {M : Type 1} → statement M
-dist-near-spec = tie.close (tie.spec (λ c κs. tt) (λ c κs. tt) returns)
+pub dist_near_spec : {M : Type 1} → statement M
+dist_near_spec = tie.close (tie.spec (λ c κs. tt) (λ c κs. tt) returns)

@@ -5,7 +5,7 @@ use Rattle.geom.proofs.point.P.len_near.Tie as tie
 
 returns : tie.Need-returns
 unfolding len
-returns c = c.root-near.ensures
+returns c = c.root_near.ensures
 
-pub len-near-spec : {M : Type 1} → statement M
-len-near-spec = tie.close (tie.spec (λ c κs. tt) returns)
+pub len_near_spec : {M : Type 1} → statement M
+len_near_spec = tie.close (tie.spec (λ c κs. tt) returns)

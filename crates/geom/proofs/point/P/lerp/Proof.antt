@@ -7,5 +7,5 @@ returns : tie.Need-returns
 unfolding lerp
 returns c = rw (c.add.ensures, c.before.mul.ensures, c.before.before.sub.ensures)
 
-pub lerp-spec : {M : Type 1} → statement M
-lerp-spec = tie.close (tie.spec (λ c κs. tt) (λ c κs. tt) (λ c κs. tt) returns)
+pub lerp_spec : {M : Type 1} → statement M
+lerp_spec = tie.close (tie.spec (λ c κs. tt) (λ c κs. tt) (λ c κs. tt) returns)

@@ -1,6 +1,5 @@
 -- `path::anchor::Anchor::is_smooth` meets its contract: each way out rewrites with the tests that led to it. Assumes nothing.
 use mathlib.Core.Path.{◌≡◌}
-use mathlib.Core.Logic.{⊎_elim}
 use mathlib.Core.Bool.{◌&&◌}
 use lib.Ieee.{lt}
 use Rattle.real.specs.Operators.{0f}
@@ -8,23 +7,25 @@ use Rattle.geom.specs.Point.{dot}
 use Rattle.path.specs.Anchor.{is_smooth, 1e-3}
 use Rattle.path.proofs.anchor.Anchor.is_smooth.Statement.{statement}
 use Rattle.path.proofs.anchor.Anchor.is_smooth.Tie as tie
+use Rattle.path.proofs.anchor.Anchor.is_smooth.Lts.{then-short-via-then-short, then-short-via-else-short+then-short-2}
 
-returns : tie.Need-returns
+returns : tie.Need-returns-then-short
 unfolding is_smooth
 returns c =
     let s = c.before in
     let b = s.before in
     let a = b.before in
-    ⊎_elim
-    (λ w. rw (← a.sub.ensures, ← s.short.ensures, w.taken))
-    (λ w. rw (← a.sub.ensures, ← b.sub2.ensures, ← s.short.ensures, w.0.left, ← w.1.ensures, w.2.taken))
-    c.if1.branch
+    elim c.then-short.branch [
+      | then-short-via-then-short w ↦ rw (← a.sub-a.ensures, ← s.short.ensures, w.if-short.true)
+      | then-short-via-else-short+then-short-2 w ↦
+          rw (← a.sub-a.ensures, ← b.sub-b.ensures, ← s.short.ensures, w.if-short.false, ← w.short-else-short.ensures, w.if-short-2.true)
+    ]
 
 -- past the test of the lengths
 ratio : (c : tie.After-abs) →
     let b = c.before.before.before.before.before.before.before.before in
     let a = b.before in
-    is_smooth a.before.args.self ≡ (lt c.abs.result 1e-3 && lt (dot a.sub.result b.sub2.result) 0f)
+    is_smooth a.before.args.self ≡ (lt c.abs.result 1e-3 && lt (dot a.sub-a.result b.sub-b.result) 0f)
 unfolding is_smooth
 ratio c =
     let l = c.before in
@@ -32,28 +33,28 @@ ratio c =
     let s = t.before.before.before in
     let b = s.before in
     rw (
-      ← b.before.sub.ensures,
-      ← b.sub2.ensures,
+      ← b.before.sub-a.ensures,
+      ← b.sub-b.ensures,
       ← s.short.ensures,
-      t.before.before.if1.false,
-      ← t.before.short2.ensures,
-      t.if2.false,
+      t.before.before.if-short.false,
+      ← t.before.short-else-short.ensures,
+      t.if-short-2.false,
       ← l.before.before.cross.ensures,
       ← l.before.len.ensures,
-      ← l.len2.ensures,
+      ← l.len-2.ensures,
       ← c.abs.ensures,
     )
 
-returns-2 : tie.Need-returns-2
+returns-2 : tie.Need-returns-then-abs
 returns-2 c =
     let d = c.before in
-    rw (ratio d.before, d.if3.true, c.dot.ensures)
+    rw (ratio d.before, d.if-abs.true, c.dot.ensures)
 
-returns-3 : tie.Need-returns-3
-returns-3 c = rw (ratio c.before, c.if3.false)
+returns-3 : tie.Need-returns-else-abs
+returns-3 c = rw (ratio c.before, c.if-abs.false)
 
-pub is-smooth-spec : {M : Type 1} → statement M
-is-smooth-spec =
+pub is_smooth_spec : {M : Type 1} → statement M
+is_smooth_spec =
     tie.close
     (tie.spec
     (λ c κs. tt)
