@@ -27,6 +27,6 @@ square_to a b =
 unfoldable pub arc_handle : Float → Float
 arc_handle cosine =
     let k = clamp cosine (neg 1f) 1f in
-    let sinHalf = root_of (max ((1f ⊖ k) ⊘ 2f) 0f) in
-    let cosHalf = root_of (max ((1f ⊕ k) ⊘ 2f) 0f) in
-    cond (lt (abs cosine) 1e-12) KAPPA (4f ⊘ 3f ⊗ sinHalf ⊘ (1f ⊕ cosHalf))
+    let sin_half = root_of (max ((1f ⊖ k) ⊘ 2f) 0f) in
+    let cos_half = root_of (max ((1f ⊕ k) ⊘ 2f) 0f) in
+    cond (lt (abs cosine) 1e-12) KAPPA (4f ⊘ 3f ⊗ sin_half ⊘ (1f ⊕ cos_half))

@@ -1,4 +1,6 @@
 // Handles of circular arcs.
+#![tactic(auto)]
+
 ghost use Rattle.std.specs.Prelude.{◌≡◌};
 ghost use Rattle.arc.specs.Arc.{square_to, arc_handle};
 

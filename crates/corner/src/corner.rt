@@ -8,7 +8,7 @@ use side::{Direction, Side};
 
 // The point, the unit directions in which the sides leave it (towards the previous anchor, then the next), the sides'
 // lengths, and the sides. Where an anchor is no corner, found is false and all else zero.
-#[derive(Drop)]
+#[derive(Clone, Copy)]
 pub struct Corner {
     pub found: bool,
     pub at: P,

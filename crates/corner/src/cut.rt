@@ -9,7 +9,7 @@ use arc::{arc_handle, square_to};
 use geom::{P, cross};
 use side::{At, is_straight_side};
 
-#[derive(Drop)]
+#[derive(Clone, Copy)]
 pub enum CornerKind {
     // An arc tangent to both sides.
     Round,
@@ -20,7 +20,7 @@ pub enum CornerKind {
 }
 
 // Where a cut meets the sides, as parameters and as points, and the handles between them.
-#[derive(Drop)]
+#[derive(Clone, Copy)]
 pub struct Cut {
     pub tu: f64,
     pub tv: f64,
@@ -31,14 +31,14 @@ pub struct Cut {
 }
 
 // The handles of a cut, out of its start and into its end.
-#[derive(Drop)]
+#[derive(Clone, Copy)]
 pub struct Handles {
     pub h_out: P,
     pub h_in: P,
 }
 
 // The lengths of a round cut's handles.
-#[derive(Drop)]
+#[derive(Clone, Copy)]
 pub struct Lengths {
     pub hu: f64,
     pub hv: f64,

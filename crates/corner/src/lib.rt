@@ -1,4 +1,6 @@
 // Corners of a path and their cuts, after 000: a corner is an anchor that is not smooth, where two sides meet at an angle.
+#![tactic(auto)]
+
 mod corner;
 mod cut;
 

@@ -78,10 +78,10 @@ out_at v i = cond (leaves v i) (trimmed_at v i).out (v.anchor i).h_out
 
 -- document 01, 'Kept outline': uncut, the anchor as the cut leaves it and six zeros; cut, the start and the end
 unfoldable pub place_of : Anchor → Bool → Cut → P → P → Place
-place_of a cut c hIn hOut =
+place_of a cut c h_in h_out =
     cond cut
-    (record { cut = true; start = record { p = c.start; h_in = hIn; h_out = c.h_out }; end = record { p = c.end; h_in = c.h_in; h_out = hOut } })
-    (record { cut = false; start = record { p = a.p; h_in = hIn; h_out = hOut }; end = without_handles origin })
+    (record { cut = true; start = record { p = c.start; h_in = h_in; h_out = c.h_out }; end = record { p = c.end; h_in = c.h_in; h_out = h_out } })
+    (record { cut = false; start = record { p = a.p; h_in = h_in; h_out = h_out }; end = without_handles origin })
 
 unfoldable pub place_at : View → ℕ → Place
 place_at v i = place_of (v.anchor i) (is_cut v i) (cut_at v i) (in_at v i) (out_at v i)

@@ -1,5 +1,7 @@
 // What the passes of the corner cut share: a subpath in flat lists, the indices within reach of one, what each pass hands on, and
 // what the cut leaves at an anchor. specs/ has the definitions of the cut, and proofs/ its locality.
+#![tactic(auto)]
+
 mod places;
 mod rows;
 mod subpath;

@@ -7,7 +7,7 @@ use geom::P;
 
 // Of a corner whose curved sides are not yet measured: the unit directions of its sides, their lengths or what stands for them, and how
 // far along them the cut that is asked for would reach. All zero where there is no corner.
-#[derive(Drop)]
+#[derive(Clone, Copy)]
 pub struct Row {
     pub u: P,
     pub v: P,

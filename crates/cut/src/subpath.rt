@@ -10,7 +10,7 @@ ghost use Rattle.cut.specs.Places.{corner_at};
 use corner::Corner;
 
 // The place of its first anchor, its anchor count, and whether it is closed.
-#[derive(Drop)]
+#[derive(Clone, Copy)]
 pub struct Sub {
     pub first: usize,
     pub n: usize,
@@ -18,7 +18,7 @@ pub struct Sub {
 }
 
 // An index of a subpath, and how many steps around it are meant.
-#[derive(Drop)]
+#[derive(Clone, Copy)]
 pub struct Window {
     pub at: usize,
     pub reach: usize,
@@ -44,7 +44,7 @@ pub fn near(k: usize, n: usize, closed: bool, i: usize, j: usize) -> bool
 }
 
 // The indices from `from` to below `to`.
-#[derive(Drop)]
+#[derive(Clone, Copy)]
 pub struct Indices {
     pub from: usize,
     pub to: usize,

@@ -1,5 +1,7 @@
 // The corner cut of a subpath, after 000's `cut_corners`, in three passes over the indices within reach of one: corners, cuts, places.
 // With a reach that covers the subpath it is the whole cut; each corner's lengths are computed once.
+#![tactic(auto)]
+
 mod corners;
 mod cuts;
 mod passes;

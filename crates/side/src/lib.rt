@@ -1,4 +1,6 @@
 // Sides of a corner, after 000's `Side`, and lengths along them.
+#![tactic(auto)]
+
 mod side;
 mod table;
 

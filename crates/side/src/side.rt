@@ -7,27 +7,27 @@ ghost use Rattle.side.specs.Side.{is_straight_side, unit, side_of, direction, le
 use crate::table::{arclen_table, at_curve, curve_length, first_chords};
 use geom::P;
 
-#[derive(Drop)]
+#[derive(Clone, Copy)]
 pub struct Side {
     pub c: [P; 4],
 }
 
 // The unit direction in which a side leaves its corner, if it has one.
-#[derive(Drop)]
+#[derive(Clone, Copy)]
 pub enum Direction {
     Along(P),
     Nowhere,
 }
 
 // A side's direction, and how far off the point is that it was found by: on a straight side that is the side's length.
-#[derive(Drop)]
+#[derive(Clone, Copy)]
 pub struct Heading {
     pub along: Direction,
     pub far: f64,
 }
 
 // A length along a side: the parameter, the point there, and the direction in which the side runs on.
-#[derive(Drop)]
+#[derive(Clone, Copy)]
 pub struct At {
     pub t: f64,
     pub p: P,

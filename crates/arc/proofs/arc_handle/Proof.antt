@@ -3,19 +3,19 @@ use Rattle.arc.specs.Arc.{arc_handle}
 use Rattle.arc.proofs.arc_handle.Statement.{statement}
 use Rattle.arc.proofs.arc_handle.Tie as tie
 
-returns : tie.Need-returns
+returns : tie.Need-returns-then-abs
 unfolding arc_handle
-returns c = rw (← c.before.abs.ensures, c.if1.true)
+returns c = rw (← c.before.abs.ensures, c.if-abs.true)
 
-returns-2 : tie.Need-returns-2
+returns-2 : tie.Need-returns
 unfolding arc_handle
 returns-2 c =
     let s = c.before.before in
     let k = s.before.before in
-    rw (← k.before.before.abs.ensures, k.before.if1.false, c.root2.ensures, c.before.max2.ensures, s.root.ensures, s.before.max.ensures, k.clamp.ensures)
+    rw (← k.before.before.abs.ensures, k.before.if-abs.false, c.root-cos_half.ensures, c.before.max-2.ensures, s.root-sin_half.ensures, s.before.max.ensures, k.clamp-k.ensures)
 
-pub arc-handle-spec : {M : Type 1} → statement M
-arc-handle-spec =
+pub arc_handle_spec : {M : Type 1} → statement M
+arc_handle_spec =
     tie.close
     (tie.spec
     (λ c κs. tt)

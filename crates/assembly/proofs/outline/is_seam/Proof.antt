@@ -2,11 +2,11 @@
 use Rattle.assembly.proofs.outline.is_seam.Statement.{statement}
 use Rattle.assembly.proofs.outline.is_seam.Tie as tie
 
-returns : tie.Need-returns
-returns c = rw c.if1.true
+returns : tie.Need-returns-then-closed
+returns c = rw c.if-closed.true
 
-returns-2 : tie.Need-returns-2
-returns-2 c = rw c.if1.false
+returns-2 : tie.Need-returns-else-closed
+returns-2 c = rw c.if-closed.false
 
-pub is-seam-spec : {M : Type 1} → statement M
-is-seam-spec = tie.close (tie.spec returns returns-2)
+pub is_seam_spec : {M : Type 1} → statement M
+is_seam_spec = tie.close (tie.spec returns returns-2)

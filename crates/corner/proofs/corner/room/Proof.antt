@@ -5,7 +5,7 @@ use Rattle.corner.proofs.corner.room.Tie as tie
 
 returns : tie.Need-returns
 unfolding room
-returns c = rw (c.max2.ensures, c.before.max.ensures)
+returns c = rw (c.max-2.ensures, c.max.ensures)
 
-pub room-spec : {M : Type 1} → statement M
-room-spec = tie.close (tie.spec (λ c κs. tt) (λ c κs. tt) returns)
+pub room_spec : {M : Type 1} → statement M
+room_spec = tie.close (tie.spec (λ c κs. tt) (λ c κs. tt) returns)

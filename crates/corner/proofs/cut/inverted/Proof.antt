@@ -10,18 +10,18 @@ returns c =
     let o = q.before in
     let w = o.before.before in
     rw (
-      c.add2.ensures,
-      c.before.mul2.ensures,
-      q.square-to2.ensures,
-      o.add.ensures,
-      o.before.mul.ensures,
-      w.square-to.ensures,
-      w.before.arc-handle.ensures,
-      w.before.before.dot.ensures,
+      c.add-2.ensures,
+      c.mul-2.ensures,
+      c.square_to-2.ensures,
+      c.add.ensures,
+      c.mul.ensures,
+      c.square_to.ensures,
+      c.arc_handle.ensures,
+      c.dot.ensures,
     )
 
-pub inverted-spec : {M : Type 1} → statement M
-inverted-spec =
+pub inverted_spec : {M : Type 1} → statement M
+inverted_spec =
     tie.close
     (tie.spec
     (λ c κs. tt)

@@ -3,7 +3,7 @@ use Rattle.corner.specs.Cut.{tangent_handles}
 use Rattle.corner.proofs.cut.tangent_handles.Statement.{statement}
 use Rattle.corner.proofs.cut.tangent_handles.Tie as tie
 
-returns : tie.Need-returns
+returns : tie.Need-returns-then-cross_ahead
 unfolding tangent_handles
 returns c =
     let t = c.before.before in
@@ -12,17 +12,17 @@ returns c =
     let d = w.before.before in
     rw (
       c.abs.ensures,
-      c.before.arc-handle.ensures,
-      ← d.dot.ensures,
-      ← w.before.cross.ensures,
-      ← w.sub.ensures,
-      ← y.before.cross2.ensures,
-      ← y.cross3.ensures,
-      ← t.before.cross-ahead.ensures,
-      t.if1.true,
+      c.arc_handle.ensures,
+      ← c.dot-cos.ensures,
+      ← c.cross-cr.ensures,
+      ← c.sub-w.ensures,
+      ← c.cross.ensures,
+      ← c.cross-2.ensures,
+      ← c.cross_ahead.ensures,
+      c.if-cross_ahead.true,
     )
 
-returns-2 : tie.Need-returns-2
+returns-2 : tie.Need-returns
 unfolding tangent_handles
 returns-2 c =
     let e = c.before in
@@ -30,18 +30,18 @@ returns-2 c =
     let w = y.before.before in
     let d = w.before.before in
     rw (
-      c.dist.ensures,
-      ← d.dot.ensures,
-      ← w.before.cross.ensures,
-      ← w.sub.ensures,
-      ← y.before.cross2.ensures,
-      ← y.cross3.ensures,
-      ← e.before.cross-ahead.ensures,
-      e.if1.false,
+      c.dist-third.ensures,
+      ← c.dot-cos.ensures,
+      ← c.cross-cr.ensures,
+      ← c.sub-w.ensures,
+      ← c.cross.ensures,
+      ← c.cross-2.ensures,
+      ← c.cross_ahead.ensures,
+      c.if-cross_ahead.false,
     )
 
-pub tangent-handles-spec : {M : Type 1} → statement M
-tangent-handles-spec =
+pub tangent_handles_spec : {M : Type 1} → statement M
+tangent_handles_spec =
     tie.close
     (tie.spec
     (λ c κs. tt)

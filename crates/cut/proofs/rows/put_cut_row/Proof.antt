@@ -22,8 +22,8 @@ returns c =
     let e9 : b + 9 ≡ suc (suc (suc (suc (suc (suc (suc (suc (suc (b))))))))) = omega arith in
     rw (e1, e2, e3, e4, e5, e6, e7, e8, e9)
 
-pub put-cut-row-spec : {M : Type 1} → statement M
-put-cut-row-spec =
+pub put_cut_row_spec : {M : Type 1} → statement M
+put_cut_row_spec =
     tie.close
     (tie.spec
     (λ c. omega arith)

@@ -19,8 +19,8 @@ returns c =
     let e6 : b + 6 ≡ suc (suc (suc (suc (suc (suc (b)))))) = omega arith in
     rw (e1, e2, e3, e4, e5, e6)
 
-pub put-row-spec : {M : Type 1} → statement M
-put-row-spec =
+pub put_row_spec : {M : Type 1} → statement M
+put_row_spec =
     tie.close
     (tie.spec
     (λ c. omega arith)

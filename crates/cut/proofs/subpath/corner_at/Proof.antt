@@ -2,7 +2,6 @@
 use Prim.Native.Nat.{◌<◌}
 use native.Mathlib.Omega.{arith}
 use borrow.Author.Rules.{rules}
-use borrow.Author.Tests.{not-true, not-false}
 use Rattle.corner.proofs.Measures.{nothing}
 use Rattle.cut.specs.View.{arrives, leaves}
 use Rattle.cut.specs.Places.{corner_at}
@@ -12,27 +11,27 @@ use Rattle.cut.proofs.subpath.corner_at.Statement.{statement}
 use Rattle.cut.proofs.subpath.corner_at.Tie as tie
 
 -- both neighbours are indices
-before-in : (c : tie.After-prev) → let s = c.before.before.before.before.before.before.before.before in c.prev.result < s.args.sub.n
-before-in c = let s = c.before.before.before.before.before.before.before.before in rw c.prev.ensures (prev-lt s.args.sub.n s.args.i s.requires.1)
+before-in : (c : tie.After-prev) → let s = c.before.before.before.before.before.before.before.before in c.prev.result < c.args.sub.n
+before-in c = let s = c.before.before.before.before.before.before.before.before in rw c.prev.ensures (prev-lt c.args.sub.n c.args.i c.requires.1)
 
-after_in_lem : (c : tie.After-next) → let s = c.before.before.before.before.before.before.before.before.before.before.before in c.next.result < s.args.sub.n
-after_in_lem c = let s = c.before.before.before.before.before.before.before.before.before.before.before in rw c.next.ensures (next-lt s.args.sub.n s.args.i s.requires.1)
+after_in_lem : (c : tie.After-next) → let s = c.before.before.before.before.before.before.before.before.before.before.before in c.next.result < c.args.sub.n
+after_in_lem c = let s = c.before.before.before.before.before.before.before.before.before.before.before in rw c.next.ensures (next-lt c.args.sub.n c.args.i c.requires.1)
 
-returns : tie.Need-returns
+returns : tie.Need-returns-then-not-arrives
 unfolding corner_at arrives leaves view_of
 returns c radius kind =
     let t = c.before in
-    nothing 128 _ _ c.none.ensures (rw (← t.before.arrives.ensures, not-true t.before.arrives.result t.if1.true))
+    nothing 128 _ _ c.none.ensures (rw (← c.arrives.ensures, c.if-not-arrives.true))
 
-returns-2 : tie.Need-returns-2
+returns-2 : tie.Need-returns-then-not-leaves
 unfolding corner_at arrives leaves view_of
 returns-2 c radius kind =
     let t = c.before in
     let f = t.before.before in
-    nothing 128 _ _ c.none2.ensures
-    (rw (← f.before.arrives.ensures, not-false f.before.arrives.result f.if1.false, ← t.before.leaves.ensures, not-true t.before.leaves.result t.if2.true))
+    nothing 128 _ _ c.none-then-not-leaves.ensures
+    (rw (← c.arrives.ensures, c.if-not-arrives.false, ← c.leaves.ensures, c.if-not-leaves.true))
 
-returns-3 : tie.Need-returns-3
+returns-3 : tie.Need-returns
 unfolding corner_at arrives leaves view_of
 returns-3 c radius kind =
     let n = c.before.before.before in
@@ -40,20 +39,20 @@ returns-3 c radius kind =
     let g = p.before.before.before in
     let f = g.before.before in
     rw (
-      ← f.before.arrives.ensures,
-      not-false f.before.arrives.result f.if1.false,
-      ← g.before.leaves.ensures,
-      not-false g.before.leaves.result g.if2.false,
-      ← n.next.ensures,
-      ← c.before.anchor-at3.ensures,
-      ← p.prev.ensures,
-      ← n.before.anchor-at2.ensures,
-      ← p.before.anchor-at.ensures,
+      ← c.arrives.ensures,
+      c.if-not-arrives.false,
+      ← c.leaves.ensures,
+      c.if-not-leaves.false,
+      ← c.next.ensures,
+      ← c.anchor_at-next.ensures,
+      ← c.prev.ensures,
+      ← c.anchor_at-prev.ensures,
+      ← c.anchor_at-a.ensures,
     )
     c.of.ensures
 
-pub corner-at-spec : {M : Type 1} → statement M
-corner-at-spec =
+pub corner_at_spec : {M : Type 1} → statement M
+corner_at_spec =
     tie.close
     (tie.spec
     (λ c κs. tt)
@@ -68,7 +67,7 @@ corner-at-spec =
     (λ c. omega (arith, before-in c.before))
     (λ c κs. omega (arith, before-in c.before))
     (λ c κs. search rules)
-    (λ c. let p = c.before.before.before.before.before.before.before.before.before.before.before.before.requires.0 in omega (arith, after_in_lem c.before))
-    (λ c κs. let p = c.before.before.before.before.before.before.before.before.before.before.before.before.requires.0 in omega (arith, after_in_lem c.before))
+    (λ c. let p = c.requires.0 in omega (arith, after_in_lem c.before))
+    (λ c κs. let p = c.requires.0 in omega (arith, after_in_lem c.before))
     (λ c κs. tt)
     returns-3)

@@ -5,22 +5,22 @@ use Rattle.cut.specs.Near.{gap, near}
 use Rattle.cut.proofs.subpath.near.Statement.{statement}
 use Rattle.cut.proofs.subpath.near.Tie as tie
 
-returns : tie.Need-returns
+returns : tie.Need-returns-then-d-k
 unfolding near
-returns c = rw (← c.before.gap.ensures, le-leb _ _ c.if1.true)
+returns c = rw (← c.gap-d.ensures, le-leb _ _ c.if-d-k.true)
 
 -- the sum does not wrap
-fits : tie.Need-overflow-add-result
+fits : tie.Need-overflow_add-result
 unfolding gap
-fits c = let e = c.before.before.gap.ensures in omega arith
+fits c = let e = c.gap-d.ensures in omega arith
 
-returns-2 : tie.Need-returns-2
+returns-2 : tie.Need-returns-then-closed
 unfolding near
-returns-2 c = rw (← c.before.before.gap.ensures, lt-leb _ _ c.before.if1.false, c.if2.true)
+returns-2 c = rw (← c.gap-d.ensures, lt-leb _ _ c.if-d-k.false, c.if-closed.true)
 
-returns-3 : tie.Need-returns-3
+returns-3 : tie.Need-returns-else-closed
 unfolding near
-returns-3 c = rw (← c.before.before.gap.ensures, lt-leb _ _ c.before.if1.false, c.if2.false)
+returns-3 c = rw (← c.gap-d.ensures, lt-leb _ _ c.if-d-k.false, c.if-closed.false)
 
-pub near-spec : {M : Type 1} → statement M
-near-spec = tie.close (tie.spec (λ c κs. tt) returns fits returns-2 returns-3)
+pub near_spec : {M : Type 1} → statement M
+near_spec = tie.close (tie.spec (λ c κs. tt) returns fits returns-2 returns-3)

@@ -5,17 +5,17 @@ use Rattle.cut.specs.Near.{span_of}
 use Rattle.cut.proofs.subpath.span.Statement.{statement}
 use Rattle.cut.proofs.subpath.span.Tie as tie
 
-returns : tie.Need-returns
+returns : tie.Need-returns-then-around
 unfolding span_of
-returns c = rw (← c.before.around.ensures, c.if1.true)
+returns c = rw (← c.around.ensures, c.if-around.true)
 
-returns-2 : tie.Need-returns-2
+returns-2 : tie.Need-returns-then-i-k
 unfolding span_of
-returns-2 c = rw (← c.before.before.before.around.ensures, c.before.before.if1.false, lt-ltb _ _ c.if2.true, c.before.back.ensures)
+returns-2 c = rw (← c.around.ensures, c.if-around.false, lt-ltb _ _ c.if-i-k.true, c.back-from.ensures)
 
-returns-3 : tie.Need-returns-3
+returns-3 : tie.Need-returns
 unfolding span_of
-returns-3 c = rw (← c.before.before.before.around.ensures, c.before.before.if1.false, le-ltb _ _ c.if2.false, c.before.back.ensures)
+returns-3 c = rw (← c.around.ensures, c.if-around.false, le-ltb _ _ c.if-i-k.false, c.back-from.ensures)
 
-pub span-spec : {M : Type 1} → statement M
-span-spec = tie.close (tie.spec (λ c κs. search rules) returns (λ c κs. tt) (λ c. search rules) (λ c. search rules) (λ c. search rules) returns-2 returns-3)
+pub span_spec : {M : Type 1} → statement M
+span_spec = tie.close (tie.spec (λ c κs. search rules) returns (λ c κs. tt) (λ c. search rules) (λ c. search rules) (λ c. search rules) returns-2 returns-3)

@@ -4,7 +4,6 @@ use Prim.Native.Nat.{ℕ, ◌+◌, ◌<◌}
 use native.Mathlib.Omega.{arith}
 use lib.Ieee.{Float}
 use borrow.Author.Rules.{rules}
-use borrow.Author.Tests.{not-true, not-false}
 use Rattle.path.specs.declared.anchor.Anchor.{Anchor}
 use Rattle.path.specs.Flat.{anchor_at}
 use Rattle.path.specs.Shape.{prev, next}
@@ -21,73 +20,61 @@ use Rattle.passes.proofs.corners.corner_of_row.Statement.{statement}
 use Rattle.passes.proofs.corners.corner_of_row.Tie as tie
 
 -- both neighbours are indices
-before-in : (c : tie.After-prev) → let s = c.before.before.before.before.before.before.before.before in c.prev.result < s.args.sub.n
-before-in c = let s = c.before.before.before.before.before.before.before.before in rw c.prev.ensures (prev-lt s.args.sub.n s.args.i s.requires.1)
+before-in : (c : tie.After-prev) → let s = c.before.before.before.before.before.before.before.before in c.prev.result < c.args.sub.n
+before-in c = let s = c.before.before.before.before.before.before.before.before in rw c.prev.ensures (prev-lt c.args.sub.n c.args.i c.requires.1)
 
-after_in_lem : (c : tie.After-next) → let s = c.before.before.before.before.before.before.before.before.before.before.before in c.next.result < s.args.sub.n
-after_in_lem c = let s = c.before.before.before.before.before.before.before.before.before.before.before in rw c.next.ensures (next-lt s.args.sub.n s.args.i s.requires.1)
+after_in_lem : (c : tie.After-next) → let s = c.before.before.before.before.before.before.before.before.before.before.before in c.next.result < c.args.sub.n
+after_in_lem c = let s = c.before.before.before.before.before.before.before.before.before.before.before in rw c.next.ensures (next-lt c.args.sub.n c.args.i c.requires.1)
 
-returns : tie.Need-returns
+returns : tie.Need-returns-then-not-r
 returns c =
-    let a = c.before.before.before.before.before.before.args in (
-      λ radius kind h. c.none.ensures ∙ none_of (view_of (anchor_at a.anchors.now) radius kind 128 a.sub) a.i (sym h.found ∙ not-true _ c.before.if1.true),
+    let a = c.args in (
+      λ radius kind h. c.none.ensures ∙ none_of (view_of (anchor_at a.anchors.now) radius kind 128 a.sub) a.i (sym h.found ∙ c.if-not-r.true),
       ((none_served 128 _ _ c.none.ensures).0, (none_served 128 _ _ c.none.ensures).1),
     )
 
 -- ---- the sides, as the anchors give them
-module _ (o : tie.After-of2) (radius : ℕ → Float) (kind : ℕ → CornerKind) where
-  abbrev third : tie.After-anchor-at3
-  third = o.before.before.before.before.before
-
-  abbrev on : tie.After-next
-  on = third.before.before
-
-  abbrev back : tie.After-prev
-  back = on.before.before.before
-
-  abbrev start : tie.Start
-  start = back.before.before.before.before.before.before.before.before
-
+module _ (o : tie.After-of-side_v) (radius : ℕ → Float) (kind : ℕ → CornerKind) where
   abbrev view : View
-  view = view_of (anchor_at start.args.anchors.now) radius kind 128 start.args.sub
+  view = view_of (anchor_at o.args.anchors.now) radius kind 128 o.args.sub
 
   abbrev place : ℕ → Anchor
-  place k = anchor_at start.args.anchors.now (start.args.sub.first + k)
+  place k = anchor_at o.args.anchors.now (o.args.sub.first + k)
 
-  side-u-is : o.before.of.result ≡ side_before (view.anchor start.args.i) (view.anchor (prev view.n start.args.i))
+  side-u-is : o.of-side_u.result ≡ side_before (view.anchor o.args.i) (view.anchor (prev view.n o.args.i))
   unfolding view_of
-  side-u-is = o.before.of.ensures ∙ ap₂ side_before back.before.anchor-at.ensures (on.before.anchor-at2.ensures ∙ ap place back.prev.ensures)
+  side-u-is = o.of-side_u.ensures ∙ ap₂ side_before o.anchor_at-a.ensures (o.anchor_at-prev.ensures ∙ ap place o.prev.ensures)
 
-  side-v-is : o.of2.result ≡ side_after (view.anchor start.args.i) (view.anchor (next view.n start.args.i))
+  side-v-is : o.of-side_v.result ≡ side_after (view.anchor o.args.i) (view.anchor (next view.n o.args.i))
   unfolding view_of
-  side-v-is = o.of2.ensures ∙ ap₂ side_after back.before.anchor-at.ensures (third.anchor-at3.ensures ∙ ap place on.next.ensures)
+  side-v-is = o.of-side_v.ensures ∙ ap₂ side_after o.anchor_at-a.ensures (o.anchor_at-next.ensures ∙ ap place o.next.ensures)
 
-  at-is : back.before.anchor-at.result.p ≡ (view.anchor start.args.i).p
+  at-is : o.anchor_at-a.result.p ≡ (view.anchor o.args.i).p
   unfolding view_of
-  at-is = ap (λ (k : Anchor). k.p) back.before.anchor-at.ensures
+  at-is = ap (λ (k : Anchor). k.p) o.anchor_at-a.ensures
 
-returns-2 : tie.Need-returns-2
+returns-2 : tie.Need-returns
 unfolding view_of
 returns-2 c =
     let m2 = c.before.before in
     let m = m2.before.before.before.before in
     let o = m.before.before in
     let g = o.before.before.before.before.before.before.before.before.before.before.before.before.before in
-    let a = g.before.before.before.before.before.args in (
+    let a = c.args in (
       λ radius kind h.
           let v = view_of (anchor_at a.anchors.now) radius kind 128 a.sub in
-          let f = sym h.found ∙ not-false _ g.if1.false in
+          let f = sym h.found ∙ c.if-not-r.false in
           let e = corner-of v a.i f in
           let su = side-u-is o radius kind in
           let sv = side-v-is o radius kind in
-          let lu = m.measure.ensures.0 (subst (λ s. OnLine 128 s a.r.lu) (sym (su ∙ ap (λ (k : Corner). k.side_u) e)) h.line_u) in
-          let lv = m2.measure2.ensures.0 (subst (λ s. OnLine 128 s a.r.lv) (sym (sv ∙ ap (λ (k : Corner). k.side_v) e)) h.line_v) in
+          let lu = c.measure.ensures.0 (subst (λ s. OnLine 128 s a.r.lu) (sym (su ∙ ap (λ (k : Corner). k.side_u) e)) h.line_u) in
+          let lv = c.measure-2.ensures.0 (subst (λ s. OnLine 128 s a.r.lv) (sym (sv ∙ ap (λ (k : Corner). k.side_v) e)) h.line_v) in
           corner-made v a.i f _ _ _ _ _ _ _ (at-is o radius kind) h.along_u h.along_v su sv lu lv,
-      (m.measure.ensures.1, m2.measure2.ensures.1),
+      (c.measure.ensures.1, c.measure-2.ensures.1),
     )
 
-pub corner-of-row-spec : {M : Type 1} → statement M
-corner-of-row-spec =
+pub corner_of_row_spec : {M : Type 1} → statement M
+corner_of_row_spec =
     tie.close
     (tie.spec
     (λ c κs. tt)
@@ -98,12 +85,12 @@ corner-of-row-spec =
     (λ c. omega (arith, before-in c.before))
     (λ c κs. omega (arith, before-in c.before))
     (λ c κs. search rules)
-    (λ c. let p = c.before.before.before.before.before.before.before.before.before.before.before.before.requires.0 in omega (arith, after_in_lem c.before))
-    (λ c κs. let p = c.before.before.before.before.before.before.before.before.before.before.before.before.requires.0 in omega (arith, after_in_lem c.before))
+    (λ c. let p = c.requires.0 in omega (arith, after_in_lem c.before))
+    (λ c κs. let p = c.requires.0 in omega (arith, after_in_lem c.before))
     (λ c κs. tt)
     (λ c κs. tt)
-    (λ c κs. c.before.before.before.before.before.before.before.before.before.before.before.before.before.before.before.before.before.before.before.requires.2)
-    (λ c κs. c.before.before.before.before.before.before.before.before.before.before.before.before.before.before.before.before.before.before.before.before.before.before.before.requires.3)
+    (λ c κs. c.requires.2)
+    (λ c κs. c.requires.3)
     (λ c. search rules)
     (λ c. search rules)
     returns-2)

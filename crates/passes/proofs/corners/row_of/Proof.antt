@@ -7,5 +7,5 @@ returns : tie.Need-returns
 unfolding row_of
 returns c = rw c.asked.ensures
 
-pub row-of-spec : {M : Type 1} → statement M
-row-of-spec = tie.close (tie.spec (λ c κs. tt) returns)
+pub row_of_spec : {M : Type 1} → statement M
+row_of_spec = tie.close (tie.spec (λ c κs. tt) returns)

@@ -5,23 +5,21 @@ use Rattle.views.specs.View.{entry}
 use Rattle.passes.proofs.passes.recut.Statement.{statement}
 use Rattle.passes.proofs.passes.recut.Tie as tie
 
-make-cuts-requires : tie.Need-make-cuts-requires
+make-cuts-requires : tie.Need-make_cuts-requires
 make-cuts-requires c κs =
-    let f = c.before.before.before.before.before.find-corners.ensures in
-    let s = c.before.before.before.before.before.before.before.before.before.before.before.before.before.before in
-    let p = s.requires in
-    (p.0, (((let e = f.0 in omega arith), p.1.0.1, p.1.0.2), f.1 (λ k. s.args.kind)))
+    let f = c.find_corners.ensures in
+    let p = c.requires in
+    (p.0, (((let e = f.0 in omega arith), p.1.0.1, p.1.0.2), f.1 (λ k. c.args.kind)))
 
 returns : tie.Need-returns
 returns c =
-    let g = c.before.before.before.before.lay-places.ensures in
-    let m = c.before.before.before.before.before.before.before.before.before.before.before.before.before in
-    let a = m.before.before.before.before.before.before.before.before.before.before.before.before.before.before.before.args in
-    let h = m.make-cuts.ensures in
-    (g.0, (m.before.before.before.before.before.before.find-corners.ensures.0, (h.0, (h.1.0, (g.1.0 (entry a.radii.now) (λ k. a.kind) h.1.1, g.1.1 (entry a.radii.now) (λ k. a.kind) h.1.1)))))
+    let g = c.lay_places.ensures in
+    let a = c.args in
+    let h = c.make_cuts.ensures in
+    (g.0, (c.find_corners.ensures.0, (h.0, (h.1.0, (g.1.0 (entry a.radii.now) (λ k. a.kind) h.1.1, g.1.1 (entry a.radii.now) (λ k. a.kind) h.1.1)))))
 
-pub recut-spec : {M : Type 1} → statement M
-recut-spec =
+pub recut_spec : {M : Type 1} → statement M
+recut_spec =
     tie.close
     (tie.spec
     (λ c κs. search rules)

@@ -12,34 +12,34 @@ use Rattle.cut.proofs.Steps.{prev-lt}
 use Rattle.places.proofs.places.handle_in.Statement.{statement}
 use Rattle.places.proofs.places.handle_in.Tie as tie
 
-inside : (c : tie.After-prev) → let a = c.before.before.before.before.before.before.args in c.prev.result < a.sub.n
-inside c = let a = c.before.before.before.before.before.before in rw c.prev.ensures (prev-lt a.args.sub.n a.args.i a.requires.1)
+inside : (c : tie.After-prev) → let a = c.args in c.prev.result < a.sub.n
+inside c = let a = c.before.before.before.before.before.before in rw c.prev.ensures (prev-lt c.args.sub.n c.args.i c.requires.1)
 
-returns : tie.Need-returns
+returns : tie.Need-returns-then-arrives
 unfolding in_at arrives view_of
 returns c radius kind h =
     let p = c.before.before in
     let r = p.before.before in
-    let a = r.before.before.before.before.args in
+    let a = c.args in
     let v = view_of (anchor_at a.anchors.now) radius kind 128 a.sub in
-    let e = sym r.arrives.ensures ∙ p.before.if1.true in
-    let q : c.before.trimmed-at.result ≡ trimmed_at v (prev a.sub.n a.i) =
-    rw p.prev.ensures at (c.before.trimmed-at.ensures radius kind (rw p.prev.ensures (h e))) in
+    let e = sym c.arrives.ensures ∙ c.if-arrives.true in
+    let q : c.trimmed_at-t.result ≡ trimmed_at v (prev a.sub.n a.i) =
+    rw c.prev.ensures at (c.trimmed_at-t.ensures radius kind (rw c.prev.ensures (h e))) in
     rw e (ap (λ (t : Trim). t.into) q)
 
-returns-2 : tie.Need-returns-2
+returns-2 : tie.Need-returns
 unfolding in_at arrives view_of
 returns-2 c radius kind h =
     let f = c.before.before.before in
-    rw (← f.before.arrives.ensures, f.if1.false, c.before.anchor-at.ensures)
+    rw (← c.arrives.ensures, c.if-arrives.false, c.anchor_at-a.ensures)
 
-pub handle-in-spec : {M : Type 1} → statement M
-handle-in-spec =
+pub handle_in_spec : {M : Type 1} → statement M
+handle_in_spec =
     tie.close
     (tie.spec
     (λ c κs. tt)
     (λ c κs. search rules)
-    (λ c κs. let p = c.before.before.before.before.before.before.requires in (p.0, inside c, p.2, p.3))
+    (λ c κs. let p = c.requires in (p.0, inside c, p.2, p.3))
     returns
     (λ c. search rules)
     (λ c κs. search rules)

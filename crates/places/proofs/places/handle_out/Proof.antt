@@ -8,21 +8,21 @@ use Rattle.cut.specs.Subpath.{view_of}
 use Rattle.places.proofs.places.handle_out.Statement.{statement}
 use Rattle.places.proofs.places.handle_out.Tie as tie
 
-returns : tie.Need-returns
+returns : tie.Need-returns-then-leaves
 unfolding out_at leaves view_of
 returns c radius kind h =
     let f = c.before.before in
-    let e = sym f.before.leaves.ensures ∙ f.if1.true in
-    rw e (ap (λ (t : Trim). t.out) (c.before.trimmed-at.ensures radius kind (h e)))
+    let e = sym c.leaves.ensures ∙ c.if-leaves.true in
+    rw e (ap (λ (t : Trim). t.out) (c.trimmed_at-t.ensures radius kind (h e)))
 
-returns-2 : tie.Need-returns-2
+returns-2 : tie.Need-returns
 unfolding out_at leaves view_of
 returns-2 c radius kind h =
     let f = c.before.before.before in
-    rw (← f.before.leaves.ensures, f.if1.false, c.before.anchor-at.ensures)
+    rw (← c.leaves.ensures, c.if-leaves.false, c.anchor_at-a.ensures)
 
-pub handle-out-spec : {M : Type 1} → statement M
-handle-out-spec =
+pub handle_out_spec : {M : Type 1} → statement M
+handle_out_spec =
     tie.close
     (tie.spec
     (λ c κs. search rules)

@@ -6,7 +6,6 @@ use native.Mathlib.Omega.{arith}
 use lib.ListN.{length, length-set, get_or}
 use lib.Ieee.{Float, nan}
 use borrow.Author.Rules.{rules}
-use borrow.Author.Tests.{not-true, not-false}
 use Rattle.views.specs.View.{entry}
 use Rattle.views.specs.Search.{count}
 use Rattle.views.proofs.Laws.{as_tabulate}
@@ -24,7 +23,7 @@ use Rattle.cut.proofs.Stages.{touched, numbers_at_lem, numbers-none, numbers_idl
 use Rattle.places.proofs.places.lay_places.Statement.{statement}
 use Rattle.places.proofs.places.lay_places.Tie as tie
 
-abbrev invariant-loop : tie.invariant-loop
+abbrev invariant-loop : tie.invariant-loop-i
 invariant-loop anchors sub w cuts marks numbers₀ flags₀ first n count₀ i₀ end numbers flags count' i =
     (i ≤ n) × (length numbers ≡ length numbers₀) × (length flags ≡ length flags₀)
     × (first + n ≤ 1024) × ((first + n) * 12 ≤ length numbers) × (first + n ≤ length flags)
@@ -35,21 +34,21 @@ invariant-loop anchors sub w cuts marks numbers₀ flags₀ first n count₀ i�
     → (j : ℕ) → get_or flags j 0 ≡ flags_at (near w.reach n sub.closed w.at) first (λ k. flag_of (is_cut v k)) flags₀ i j)
     × (end ≤ n)
 
-abbrev decreases-loop : tie.decreases-loop
+abbrev decreases-loop : tie.decreases-loop-i
 decreases-loop anchors sub w cuts marks numbers₀ flags₀ first n count₀ i₀ end numbers flags count' i = n - i
 
-loop-holds : tie.Need-loop-init invariant-loop decreases-loop
+loop-holds : tie.Need-loop-i-init invariant-loop decreases-loop
 unfolding count
 loop-holds c =
     let s = c.before.before.before.before.before.before in
-    let p = s.requires in
-    let a = s.args in
-    let e = c.span.ensures in
+    let p = c.requires in
+    let a = c.args in
+    let e = c.span-there.ensures in
     let q = span_in a.w.reach a.sub.n a.sub.closed a.w.at p.0.1.index in
     let near-it = near a.w.reach a.sub.n a.sub.closed a.w.at in
-    let z : c.span.result.from ≤ a.sub.n = rw e q.0 in
-    let zero_more : 0 + c.span.result.from ≡ c.span.result.from = omega arith in
-    let b : (j : ℕ) → 0 ≤ j → j < c.span.result.from → near a.w.reach a.sub.n a.sub.closed a.w.at j ≡ false =
+    let z : c.span-there.result.from ≤ a.sub.n = rw e q.0 in
+    let zero_more : 0 + c.span-there.result.from ≡ c.span-there.result.from = omega arith in
+    let b : (j : ℕ) → 0 ≤ j → j < c.span-there.result.from → near a.w.reach a.sub.n a.sub.closed a.w.at j ≡ false =
     λ j o l. let h : j < a.sub.n = omega arith in before-span a.w.reach a.sub.n a.sub.closed a.w.at j h (rw (← e) l) in (
       z,
       refl,
@@ -57,20 +56,20 @@ loop-holds c =
       p.0.0.small,
       p.1.0,
       p.1.1,
-      count_idle near-it 0 c.span.result.from (λ j o l. b j o (omega arith)) ∙ ap (count near-it) zero_more,
+      count_idle near-it 0 c.span-there.result.from (λ j o l. b j o (omega arith)) ∙ ap (count near-it) zero_more,
       omega arith,
-      λ radius kind h. numbers_idle _ _ _ _ a.numbers.now 0 c.span.result.from (omega arith) b (numbers-none _ _ _ _),
-      λ radius kind h. flags_idle _ _ _ _ a.flags.now 0 c.span.result.from (omega arith) b (flags_none _ _ _ _),
+      λ radius kind h. numbers_idle _ _ _ _ a.numbers.now 0 c.span-there.result.from (omega arith) b (numbers-none _ _ _ _),
+      λ radius kind h. flags_idle _ _ _ _ a.flags.now 0 c.span-there.result.from (omega arith) b (flags_none _ _ _ _),
       rw e q.1,
     )
 
-loop-again : tie.Need-loop-preserved invariant-loop decreases-loop
+loop-again : tie.Need-loop-i-preserved-then-not-near invariant-loop decreases-loop
 loop-again c =
-    let l = c.before.before.before.loop in
+    let l = c.loop-i in
     let i = l.invariant in
-    let a = c.before.before.before.before.before.before.before.before.before.before.args in
+    let a = c.args in
     let p = near a.w.reach a.sub.n a.sub.closed a.w.at in
-    let e : p l.i ≡ false = rw (← c.before.near.ensures) (not-true _ c.if1.true) in (
+    let e : p l.i ≡ false = rw (← c.near.ensures) (c.if-not-near.true) in (
       omega arith,
       i.1,
       i.2,
@@ -84,32 +83,32 @@ loop-again c =
       i.10,
     )
 
-loop-again-2 : tie.Need-loop-preserved-2 invariant-loop decreases-loop
+loop-again-2 : tie.Need-loop-i-preserved invariant-loop decreases-loop
 unfolding view_of
 loop-again-2 c =
-    let g = c.before.before.before.put-place in
+    let g = c.put_place in
     let q = c.before.before.before.before.before in
     let t = q.before.before in
-    let l = t.before.before.loop in
+    let l = c.loop-i in
     let i = l.invariant in
     let s = t.before.before.before.before.before.before.before.before.before in
-    let a = s.args in
+    let a = c.args in
     let p = near a.w.reach a.sub.n a.sub.closed a.w.at in
-    let e : p l.i ≡ true = rw (← t.near.ensures) (not-false _ q.before.if1.false) in (
+    let e : p l.i ≡ true = rw (← c.near.ensures) (c.if-not-near.false) in (
       omega arith,
-      g.auto.0 ∙ i.1,
+      g.auto.numbers ∙ i.1,
       simp length-set i.2,
       i.3,
-      (let k = g.auto.0 in omega arith),
+      (let k = g.auto.numbers in omega arith),
       simp length-set i.5,
       ap (λ z. z + 1) i.6 ∙ count_more p l.i e,
       omega arith,
       λ radius kind h j.
           ap (λ z. entry z j) g.ensures
-          ∙ numbers-put _ _ _ _ l.numbers l.i q.place_at.result e (omega arith) (rw (q.place_at.ensures radius kind h e)) (i.8 radius kind h) j,
+          ∙ numbers-put _ _ _ _ l.numbers l.i c.place_at-q.result e (omega arith) (rw (c.place_at-q.ensures radius kind h e)) (i.8 radius kind h) j,
       λ radius kind h.
           flags_put _ _ _ _ l.flags l.i (get_or a.marks.now l.i 0) e (omega arith)
-          (mark_here (view_of (anchor_at a.anchors.now) radius kind 128 a.sub) a.w.reach a.w.at a.cuts.now a.marks.now s.requires.0.1.index l.i (omega arith) e h)
+          (mark_here (view_of (anchor_at a.anchors.now) radius kind 128 a.sub) a.w.reach a.w.at a.cuts.now a.marks.now c.requires.0.1.index l.i (omega arith) e h)
           (i.9 radius kind h),
       i.10,
     )
@@ -117,14 +116,14 @@ loop-again-2 c =
 returns : tie.Need-returns invariant-loop decreases-loop
 unfolding near_count recut_numbers recut_flags reached touched numbers_at_lem flags_at view_of
 returns c =
-    let l = c.before.loop in
+    let l = c.loop-i in
     let i = l.invariant in
     let g = c.before.before in
-    let a = g.before.before.before.before.before.before.args in
+    let a = c.args in
     let p = near a.w.reach a.sub.n a.sub.closed a.w.at in
     let d : l.i + (a.sub.n - l.i) ≡ a.sub.n = omega arith in
     let b : (j : ℕ) → l.i ≤ j → j < a.sub.n → p j ≡ false =
-    λ j o h. let m : g.span.result.to ≤ j = omega arith in after-span a.w.reach a.sub.n a.sub.closed a.w.at j h (rw (← g.span.ensures) m) in (
+    λ j o h. let m : c.span-there.result.to ≤ j = omega arith in after-span a.w.reach a.sub.n a.sub.closed a.w.at j h (rw (← c.span-there.ensures) m) in (
       i.6 ∙ count_idle p l.i (a.sub.n - l.i) (λ j o h. b j o (omega arith)) ∙ ap (count p) d,
       (
         λ radius kind h. as_tabulate nan l.numbers (length a.numbers.now) _ i.1 (λ j q. numbers_idle p a.sub.first (λ k. place_numbers (place_at (view_of (anchor_at a.anchors.now) radius kind 128 a.sub) k)) a.numbers.now l.numbers l.i a.sub.n i.0 b (i.8 radius kind h) j),
@@ -132,8 +131,8 @@ returns c =
       ),
     )
 
-pub lay-places-spec : {M : Type 1} → statement M
-lay-places-spec =
+pub lay_places_spec : {M : Type 1} → statement M
+lay_places_spec =
     tie.close
     (tie.spec
     invariant-loop
@@ -148,7 +147,7 @@ lay-places-spec =
     (λ c. search rules)
     (λ c κs. search rules)
     (λ c. search rules)
-    (λ c. let l = c.before.before.before.before.before.before.before.before.before in let b = l.loop.invariant.10 in let i = l.loop.invariant in let p = l.before.before.before.before.before.before.before.requires in omega arith)
+    (λ c. let l = c.before.before.before.before.before.before.before.before.before in let b = c.loop-i.invariant.10 in let i = c.loop-i.invariant in let p = c.requires in omega arith)
     (λ c. search rules)
     (λ c. search rules)
     (λ c. search rules)

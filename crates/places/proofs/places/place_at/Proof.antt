@@ -12,20 +12,20 @@ returns c radius kind h e =
     let o = c.before.before.before in
     let n = o.before in
     let s = n.before.before.before.before.before.before in
-    let a = s.args in
+    let a = c.args in
     let v = view_of (anchor_at a.anchors.now) radius kind 128 a.sub in
-    let g = s.requires.1.index in
-    let l = s.requires.2 in
+    let g = c.requires.1.index in
+    let l = c.requires.2 in
     rw (
       c.place_of.ensures,
-      c.before.cut-row-at.ensures,
-      o.handle-out.ensures radius kind (ends_after v a.w.reach a.w.at a.cuts.now a.marks.now g a.i l e h),
-      n.handle-in.ensures radius kind (ends_before v a.w.reach a.w.at a.cuts.now a.marks.now g a.i l e h),
-      n.before.anchor-at.ensures,
+      c.cut_row_at.ensures,
+      c.handle_out-out.ensures radius kind (ends_after v a.w.reach a.w.at a.cuts.now a.marks.now g a.i l e h),
+      c.handle_in-into.ensures radius kind (ends_before v a.w.reach a.w.at a.cuts.now a.marks.now g a.i l e h),
+      c.anchor_at-a.ensures,
     ) (place_held v a.w.reach a.w.at a.cuts.now a.marks.now g a.i l e h)
 
-pub place-at-spec : {M : Type 1} → statement M
-place-at-spec =
+pub place_at_spec : {M : Type 1} → statement M
+place_at_spec =
     tie.close
     (tie.spec
     (λ c. search rules)

@@ -4,10 +4,10 @@ use Rattle.places.proofs.places.put_place.Statement.{statement}
 use Rattle.places.proofs.places.put_place.Tie as tie
 
 returns : tie.Need-returns
-returns c = rw (c.before.before.put-anchor2.ensures, c.before.before.before.before.before.before.put-anchor.ensures)
+returns c = rw (c.put_anchor-2.ensures, c.put_anchor.ensures)
 
-pub put-place-spec : {M : Type 1} → statement M
-put-place-spec =
+pub put_place_spec : {M : Type 1} → statement M
+put_place_spec =
     tie.close
     (tie.spec
     (λ c. search rules)

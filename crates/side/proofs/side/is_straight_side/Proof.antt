@@ -5,18 +5,18 @@ use Rattle.side.specs.Side.{is_straight_side}
 use Rattle.side.proofs.side.is_straight_side.Statement.{statement}
 use Rattle.side.proofs.side.is_straight_side.Tie as tie
 
-returns : tie.Need-returns
+returns : tie.Need-returns-then-within
 unfolding is_straight_side dist
 returns c =
     let d = c.before.before.before.before in
-    rw (c.within2.ensures, c.before.sub2.ensures, rw (d.before.within.ensures, d.before.before.sub.ensures) at d.if1.true)
+    rw (c.within-then-within.ensures, c.before.sub-then-within.ensures, rw (d.before.within.ensures, d.before.before.sub.ensures) at d.if-within.true)
 
-returns-2 : tie.Need-returns-2
+returns-2 : tie.Need-returns-else-within
 unfolding is_straight_side dist
-returns-2 c = rw (rw (c.before.within.ensures, c.before.before.sub.ensures) at c.if1.false) c.if1.false
+returns-2 c = rw (rw (c.before.within.ensures, c.before.before.sub.ensures) at c.if-within.false) c.if-within.false
 
-pub is-straight-side-spec : {M : Type 1} → statement M
-is-straight-side-spec =
+pub is_straight_side_spec : {M : Type 1} → statement M
+is_straight_side_spec =
     tie.close
     (tie.spec
     (λ c. search rules)

@@ -18,15 +18,15 @@ use Rattle.side.proofs.Lengths.{running_cong}
 use Rattle.side.proofs.table.add_roots.Statement.{statement}
 use Rattle.side.proofs.table.add_roots.Tie as tie
 
-abbrev invariant-loop : tie.invariant-loop
+abbrev invariant-loop : tie.invariant-loop-k
 invariant-loop table₀ sum₀ k₀ table sum k =
     let f : ℕ → Float = λ j. root_of (entry table₀ (j + 1)) in
     (k ≤ 128) × (length table ≡ 129) × (sum ≡ running f k) × ((i : ℕ) → i < k + 1 → entry table i ≡ running f i) × ((i : ℕ) → k + 1 ≤ i → entry table i ≡ entry table₀ i)
 
-abbrev decreases-loop : tie.decreases-loop
+abbrev decreases-loop : tie.decreases-loop-k
 decreases-loop table₀ sum₀ k₀ table sum k = 128 - k
 
-loop-holds : tie.Need-loop-init invariant-loop decreases-loop
+loop-holds : tie.Need-loop-k-init invariant-loop decreases-loop
 unfolding running
 loop-holds c =
     let room = c.before.requires in
@@ -40,15 +40,15 @@ one_more : (f : ℕ → Float) (k : ℕ) → running f (k + 1) ≡ running f k �
 unfolding running
 one_more f k = ap (running f) (add-one k)
 
-next : (c : tie.After-root invariant-loop decreases-loop) → let l = c.before.before.before.loop in l.sum ⊕ c.root.result ≡ running (roots c.before.before.before.before.before) (l.k + 1)
+next : (c : tie.After-root-sum invariant-loop decreases-loop) → let l = c.before.before.before.loop-k in l.sum ⊕ c.root-sum.result ≡ running (roots c.before.before.before.before.before) (l.k + 1)
 next c =
-    let l = c.before.before.before.loop in
+    let l = c.before.before.before.loop-k in
     let i = l.invariant in
-    ap₂ ◌⊕◌ i.2 (c.root.ensures ∙ ap root_of (i.4 (l.k + 1) (le_refl (l.k + 1)))) ∙ sym (one_more _ l.k)
+    ap₂ ◌⊕◌ i.2 (c.root-sum.ensures ∙ ap root_of (i.4 (l.k + 1) (le_refl (l.k + 1)))) ∙ sym (one_more _ l.k)
 
-loop-again : tie.Need-loop-preserved invariant-loop decreases-loop
+loop-again : tie.Need-loop-k-preserved invariant-loop decreases-loop
 loop-again c =
-    let l = c.before.before.before.loop in
+    let l = c.before.before.before.loop-k in
     let i = l.invariant in
     let first = c.before.before.before.before.before.args.table.now in (
       omega arith,
@@ -60,14 +60,14 @@ loop-again c =
 
 returns : tie.Need-returns invariant-loop decreases-loop
 returns c =
-    let l = c.before.loop in
+    let l = c.before.loop-k in
     let i = l.invariant in
     let first = c.before.before.before.args.table.now in
     as_tabulate nan _ 129 _ i.1
     (λ j h. i.3 j (omega arith) ∙ running_cong _ _ j (λ k m. ap root_of (get_or-set_other first 0 (k + 1) 0f nan (λ e. omega arith))))
 
-pub add-roots-spec : {M : Type 1} → statement M
-add-roots-spec =
+pub add_roots_spec : {M : Type 1} → statement M
+add_roots_spec =
     tie.close
     (tie.spec
     invariant-loop

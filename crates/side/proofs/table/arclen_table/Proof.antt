@@ -14,8 +14,8 @@ unfolding arclen_table
 returns c =
     let r = c.before.before in
     let q = r.before.before.before.before in
-    r.add-roots.ensures
-    ∙ tabulate_cong 129 _ _ (λ j h. running_cong _ _ j (λ k l. ap root_of (q.put-squares.ensures k (omega arith)) ∙ chord-root _ 128 k))
+    r.add_roots.ensures
+    ∙ tabulate_cong 129 _ _ (λ j h. running_cong _ _ j (λ k l. ap root_of (q.put_squares.ensures k (omega arith)) ∙ chord-root _ 128 k))
 
-pub arclen-table-spec : {M : Type 1} → statement M
-arclen-table-spec = tie.close (tie.spec (λ c κs. search rules) (λ c κs. search rules) (λ c. search rules) returns)
+pub arclen_table_spec : {M : Type 1} → statement M
+arclen_table_spec = tie.close (tie.spec (λ c κs. search rules) (λ c κs. search rules) (λ c. search rules) returns)

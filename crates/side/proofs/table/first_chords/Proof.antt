@@ -16,31 +16,31 @@ use Rattle.side.proofs.Lengths.{length-next}
 use Rattle.side.proofs.table.first_chords.Statement.{statement}
 use Rattle.side.proofs.table.first_chords.Tie as tie
 
-abbrev invariant-loop : tie.invariant-loop
+abbrev invariant-loop : tie.invariant-loop-k
 invariant-loop c far₀ p₀ k₀ far p k = (k ≤ 128) × (p ≡ step_at c 128 k) × (far ≡ running (chord c 128) k) × (lt CEPS far ≡ false)
 
-abbrev decreases-loop : tie.decreases-loop
+abbrev decreases-loop : tie.decreases-loop-k
 decreases-loop c far₀ p₀ k₀ far p k = 128 - k
 
-loop-holds : tie.Need-loop-init invariant-loop decreases-loop
+loop-holds : tie.Need-loop-k-init invariant-loop decreases-loop
 unfolding running lt of_bits
-loop-holds c = (omega arith, c.step-at.ensures, refl, refl)
+loop-holds c = (omega arith, c.step_at-p.ensures, refl, refl)
 
 -- one sum more
-next : (c : tie.After-dist invariant-loop decreases-loop) → let l = c.before.before.before.loop in let a = c.before.before.before.before.before.args in
-    l.so_far ⊕ c.dist.result ≡ running (chord a.c 128) (l.k + 1)
+next : (c : tie.After-dist-so_far invariant-loop decreases-loop) → let l = c.before.before.before.loop-k in let a = c.before.before.before.before.before.args in
+    l.so_far ⊕ c.dist-so_far.result ≡ running (chord a.c 128) (l.k + 1)
 next c =
-    let i = c.before.before.before.loop.invariant in
-    rw (c.dist.ensures, i.1, i.2, c.before.step-at2.ensures) (sym (length-next _ 128 _))
+    let i = c.before.before.before.loop-k.invariant in
+    rw (c.dist-so_far.ensures, i.1, i.2, c.before.step_at-q.ensures) (sym (length-next _ 128 _))
 
-returns : tie.Need-returns invariant-loop decreases-loop
+returns : tie.Need-returns-then-so_far invariant-loop decreases-loop
 unfolding long_enough
 returns c =
     let d = c.before in
-    let l = d.before.before.before.loop in
+    let l = d.before.before.before.loop-k in
     let s = d.before.before.before.before.before in
     let curve = s.args.c in
-    let above = ap (lt CEPS) (sym (next d)) ∙ c.if1.true in
+    let above = ap (lt CEPS) (sym (next d)) ∙ c.if-so_far.true in
     rw (
       next d,
       above,
@@ -49,19 +49,19 @@ returns c =
       chords_is_finite curve 128 s.requires (lit< tt) (lit< tt) 128 (lit≤ tt),
     )
 
-loop-again : tie.Need-loop-preserved invariant-loop decreases-loop
+loop-again : tie.Need-loop-k-preserved invariant-loop decreases-loop
 loop-again c =
     let d = c.before in
-    (omega arith, d.before.step-at2.ensures, next d, c.if1.false)
+    (omega arith, d.before.step_at-q.ensures, next d, c.if-so_far.false)
 
-returns-2 : tie.Need-returns-2 invariant-loop decreases-loop
+returns-2 : tie.Need-returns invariant-loop decreases-loop
 returns-2 c =
-    let l = c.before.loop in
+    let l = c.before.loop-k in
     let end : l.k ≡ 128 = omega arith in
     ap long_enough (l.invariant.2 ∙ ap (running _) end)
 
-pub first-chords-spec : {M : Type 1} → statement M
-first-chords-spec =
+pub first_chords_spec : {M : Type 1} → statement M
+first_chords_spec =
     tie.close
     (tie.spec
     invariant-loop

@@ -13,41 +13,41 @@ use Rattle.side.specs.Side.{chord_square}
 use Rattle.side.proofs.table.put_squares.Statement.{statement}
 use Rattle.side.proofs.table.put_squares.Tie as tie
 
-abbrev invariant-loop : tie.invariant-loop
+abbrev invariant-loop : tie.invariant-loop-k
 invariant-loop c table₀ p₀ k₀ table p k =
     (k ≤ 128) × (length table ≡ 129) × (p ≡ step_at c 128 k) × ((i : ℕ) → i < k → entry table (i + 1) ≡ chord_square c 128 i)
 
-abbrev decreases-loop : tie.decreases-loop
+abbrev decreases-loop : tie.decreases-loop-k
 decreases-loop c table₀ p₀ k₀ table p k = 128 - k
 
-loop-holds : tie.Need-loop-init invariant-loop decreases-loop
-loop-holds c = (omega arith, c.before.before.requires, c.step-at.ensures, below_none _)
+loop-holds : tie.Need-loop-k-init invariant-loop decreases-loop
+loop-holds c = (omega arith, c.before.before.requires, c.step_at-p.ensures, below_none _)
 
 -- one square more
-next : (c : tie.After-dot invariant-loop decreases-loop) → let l = c.before.before.before.before.loop in let a = c.before.before.before.before.before.before.before.args in
+next : (c : tie.After-dot invariant-loop decreases-loop) → let l = c.before.before.before.before.loop-k in let a = c.before.before.before.before.before.before.before.args in
     c.dot.result ≡ chord_square a.c 128 l.k
 unfolding chord_square
 next c =
-    let i = c.before.before.before.before.loop.invariant in
-    rw (c.dot.ensures, c.before.sub.ensures, i.2, c.before.before.step-at2.ensures)
+    let i = c.before.before.before.before.loop-k.invariant in
+    rw (c.dot.ensures, c.before.sub-d.ensures, i.2, c.before.before.step_at-q.ensures)
 
-loop-again : tie.Need-loop-preserved invariant-loop decreases-loop
+loop-again : tie.Need-loop-k-preserved invariant-loop decreases-loop
 loop-again c =
-    let l = c.before.before.before.before.loop in
+    let l = c.before.before.before.before.loop-k in
     let i = l.invariant in (
       omega arith,
       simp length-set i.1,
-      c.before.before.step-at2.ensures,
+      c.before.before.step_at-q.ensures,
       below_more _ _
           (λ j h. get_or-set_other l.table (l.k + 1) (j + 1) _ nan (λ e. omega arith) ∙ i.3 j h)
           (get_or-set_same l.table (l.k + 1) _ nan (omega arith) ∙ next c),
     )
 
 returns : tie.Need-returns invariant-loop decreases-loop
-returns c k h = let i = c.before.loop.invariant in i.3 k (omega arith)
+returns c k h = let i = c.before.loop-k.invariant in i.3 k (omega arith)
 
-pub put-squares-spec : {M : Type 1} → statement M
-put-squares-spec =
+pub put_squares_spec : {M : Type 1} → statement M
+put_squares_spec =
     tie.close
     (tie.spec
     invariant-loop

@@ -7,5 +7,5 @@ returns : tie.Need-returns
 unfolding cos
 returns c = c.dot.ensures
 
-pub cos-spec : {M : Type 1} → statement M
-cos-spec = tie.close (tie.spec (λ c κs. tt) returns)
+pub cos_spec : {M : Type 1} → statement M
+cos_spec = tie.close (tie.spec (λ c κs. tt) returns)

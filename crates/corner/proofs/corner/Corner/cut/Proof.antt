@@ -7,13 +7,13 @@ use Rattle.corner.specs.Cut.{cut}
 use Rattle.corner.proofs.corner.Corner.cut.Statement.{statement}
 use Rattle.corner.proofs.corner.Corner.cut.Tie as tie
 
-first : tie.Need-at-length-requires
+first : tie.Need-at_length-a-requires
 unfolding with_lengths OnLine
-first c κs = let p = c.before.before.before.requires in (λ line. sym (ap (λ (k : Corner). k.lu) p.0), p.1)
+first c κs = let p = c.requires in (λ line. sym (ap (λ (k : Corner). k.lu) p.0), p.1)
 
-second : tie.Need-at-length-requires-2
+second : tie.Need-at_length-b-requires
 unfolding with_lengths OnLine
-second c κs = let p = c.before.before.before.before.requires in (λ line. sym (ap (λ (k : Corner). k.lv) p.0), p.2)
+second c κs = let p = c.requires in (λ line. sym (ap (λ (k : Corner). k.lv) p.0), p.2)
 
 returns : tie.Need-returns
 unfolding cut
@@ -21,7 +21,7 @@ returns c =
     let h = c.before.before in
     let b = h.before.before.before in
     let a = b.before in
-    rw (← a.before.before.before.setback.ensures, ← a.at_length.ensures, ← b.at-length2.ensures, ← h.handles.ensures)
+    rw (← c.setback-s.ensures, ← c.at_length-a.ensures, ← c.at_length-b.ensures, ← c.handles-h.ensures)
 
 pub cut_spec : {M : Type 1} → statement M
 cut_spec = tie.close (tie.spec (λ c κs. tt) first second (λ c κs. tt) returns)

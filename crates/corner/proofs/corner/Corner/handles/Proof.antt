@@ -4,20 +4,20 @@ use Rattle.corner.specs.Cut.{handles}
 use Rattle.corner.proofs.corner.Corner.handles.Statement.{statement}
 use Rattle.corner.proofs.corner.Corner.handles.Tie as tie
 
-returns : tie.Need-returns
+returns : tie.Need-returns-in-Round
 unfolding handles
-returns c = rw (c.before.enum_told.given.1, c.rounded.ensures)
+returns c = rw (c.in-Round.is, c.rounded.ensures)
 
-returns-2 : tie.Need-returns-2
+returns-2 : tie.Need-returns-in-Inverted
 unfolding handles
-returns-2 c = rw (c.before.enum-told2.given.1, c.inverted.ensures)
+returns-2 c = rw (c.in-Inverted.is, c.inverted.ensures)
 
-returns-3 : tie.Need-returns-3
+returns-3 : tie.Need-returns-in-Chamfer
 unfolding handles
-returns-3 c = rw c.before.before.enum-told3.given.1
+returns-3 c = rw c.in-Chamfer.is
 
-pub handles-spec : {M : Type 1} → statement M
-handles-spec =
+pub handles_spec : {M : Type 1} → statement M
+handles_spec =
     tie.close
     (tie.spec
     (λ c. search rules)

@@ -5,7 +5,7 @@ use Rattle.corner.proofs.corner.Corner.max_radius.Tie as tie
 
 returns : tie.Need-returns
 unfolding max_radius
-returns c = rw (c.radius-at-setback.ensures, c.before.min.ensures)
+returns c = rw (c.radius_at_setback.ensures, c.min.ensures)
 
-pub max-radius-spec : {M : Type 1} → statement M
-max-radius-spec = tie.close (tie.spec (λ c κs. tt) (λ c κs. tt) returns)
+pub max_radius_spec : {M : Type 1} → statement M
+max_radius_spec = tie.close (tie.spec (λ c κs. tt) (λ c κs. tt) returns)

@@ -5,7 +5,7 @@ use Rattle.corner.proofs.corner.Corner.max_radius_beside.Tie as tie
 
 returns : tie.Need-returns
 unfolding max_radius_beside
-returns c = rw (c.radius-at-setback.ensures, c.before.min.ensures, c.before.before.room2.ensures, c.before.before.before.room.ensures)
+returns c = rw (c.radius_at_setback.ensures, c.min.ensures, c.room-2.ensures, c.room.ensures)
 
-pub max-radius-beside-spec : {M : Type 1} → statement M
-max-radius-beside-spec = tie.close (tie.spec (λ c κs. tt) (λ c κs. tt) (λ c κs. tt) (λ c κs. tt) returns)
+pub max_radius_beside_spec : {M : Type 1} → statement M
+max_radius_beside_spec = tie.close (tie.spec (λ c κs. tt) (λ c κs. tt) (λ c κs. tt) (λ c κs. tt) returns)

@@ -5,7 +5,7 @@ use Rattle.corner.proofs.corner.Corner.measured.Tie as tie
 
 returns : tie.Need-returns
 unfolding with_lengths
-returns c = rw (c.before.length.ensures, c.length2.ensures)
+returns c = rw (c.length.ensures, c.length-2.ensures)
 
-pub measured-spec : {M : Type 1} → statement M
-measured-spec = tie.close (tie.spec (λ c κs. tt) (λ c κs. tt) returns)
+pub measured_spec : {M : Type 1} → statement M
+measured_spec = tie.close (tie.spec (λ c κs. tt) (λ c κs. tt) returns)

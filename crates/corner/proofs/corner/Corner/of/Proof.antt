@@ -5,20 +5,20 @@ use Rattle.corner.proofs.Measures.{nothing}
 use Rattle.corner.proofs.corner.Corner.of.Statement.{statement}
 use Rattle.corner.proofs.corner.Corner.of.Tie as tie
 
-returns : tie.Need-returns
+returns : tie.Need-returns-then-is_smooth
 unfolding corner_of
-returns c = nothing 128 _ _ c.none.ensures (rw (← c.before.before.is-smooth.ensures, c.before.if1.true))
+returns c = nothing 128 _ _ c.none.ensures (rw (← c.is_smooth.ensures, c.if-is_smooth.true))
 
-returns-2 : tie.Need-returns-2
+returns-2 : tie.Need-returns-in_default
 unfolding corner_of between
 returns-2 c =
     let d = c.before.before.before in
     let o = d.before.before in
     let e = o.before.before in
-    nothing 128 _ _ c.none2.ensures
-    (rw (← e.before.is-smooth.ensures, e.if1.false, ← o.of.ensures, ← d.direction.ensures, c.before.enum_told.given.1))
+    nothing 128 _ _ c.none-in_default.ensures
+    (rw (← c.is_smooth.ensures, c.if-is_smooth.false, ← c.of-side_u.ensures, ← c.direction-hu.ensures, c.in_default.is))
 
-returns-3 : tie.Need-returns-3
+returns-3 : tie.Need-returns-in_default-dv
 unfolding corner_of between
 returns-3 c =
     let dv = c.before.before.before in
@@ -26,19 +26,19 @@ returns-3 c =
     let du = u.before.before in
     let o = du.before.before in
     let e = o.before.before in
-    nothing 128 _ _ c.none3.ensures
+    nothing 128 _ _ c.none-in_default-dv.ensures
     (rw (
-      ← e.before.is-smooth.ensures,
-      e.if1.false,
-      ← o.of.ensures,
-      ← du.before.of2.ensures,
-      ← du.direction.ensures,
-      u.du.given.1,
-      ← dv.direction2.ensures,
-      c.before.enum-told2.given.1,
+      ← c.is_smooth.ensures,
+      c.if-is_smooth.false,
+      ← c.of-side_u.ensures,
+      ← c.of-side_v.ensures,
+      ← c.direction-hu.ensures,
+      c.in-Along.is,
+      ← c.direction-hv.ensures,
+      c.in_default-dv.is,
     ))
 
-returns-4 : tie.Need-returns-4
+returns-4 : tie.Need-returns
 unfolding corner_of between
 returns-4 c =
     let v = c.before.before in
@@ -48,14 +48,14 @@ returns-4 c =
     let o = du.before.before in
     let e = o.before.before in
     rw (
-      ← e.before.is-smooth.ensures,
-      e.if1.false,
-      ← o.of.ensures,
-      ← du.before.of2.ensures,
-      ← du.direction.ensures,
-      u.du.given.1,
-      ← dv.direction2.ensures,
-      v.dv.given.1,
+      ← c.is_smooth.ensures,
+      c.if-is_smooth.false,
+      ← c.of-side_u.ensures,
+      ← c.of-side_v.ensures,
+      ← c.direction-hu.ensures,
+      c.in-Along.is,
+      ← c.direction-hv.ensures,
+      c.in-Along-dv.is,
     )
     c.meet.ensures
 

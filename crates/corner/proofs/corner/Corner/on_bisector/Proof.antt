@@ -5,7 +5,7 @@ use Rattle.corner.proofs.corner.Corner.on_bisector.Tie as tie
 
 returns : tie.Need-returns
 unfolding on_bisector
-returns c = rw (c.add2.ensures, c.before.mul.ensures, c.before.before.add.ensures)
+returns c = rw (c.add-2.ensures, c.mul.ensures, c.add.ensures)
 
-pub on-bisector-spec : {M : Type 1} → statement M
-on-bisector-spec = tie.close (tie.spec (λ c κs. tt) (λ c κs. tt) (λ c κs. tt) returns)
+pub on_bisector_spec : {M : Type 1} → statement M
+on_bisector_spec = tie.close (tie.spec (λ c κs. tt) (λ c κs. tt) (λ c κs. tt) returns)

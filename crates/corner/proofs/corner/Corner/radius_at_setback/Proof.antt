@@ -7,5 +7,5 @@ returns : tie.Need-returns
 unfolding radius_at_setback
 returns c = cc
 
-pub radius-at-setback-spec : {M : Type 1} → statement M
-radius-at-setback-spec = tie.close (tie.spec (λ c κs. tt) (λ c κs. tt) returns)
+pub radius_at_setback_spec : {M : Type 1} → statement M
+radius_at_setback_spec = tie.close (tie.spec (λ c κs. tt) (λ c κs. tt) returns)

@@ -5,7 +5,7 @@ use Rattle.corner.proofs.corner.Corner.radius_change.Tie as tie
 
 returns : tie.Need-returns
 unfolding radius_change
-returns c = rw (c.cos.ensures, c.before.sin.ensures, c.before.before.dot.ensures, c.before.before.before.add.ensures)
+returns c = rw (c.cos.ensures, c.sin.ensures, c.dot.ensures, c.add.ensures)
 
-pub radius-change-spec : {M : Type 1} → statement M
-radius-change-spec = tie.close (tie.spec (λ c κs. tt) (λ c κs. tt) (λ c κs. tt) (λ c κs. tt) returns)
+pub radius_change_spec : {M : Type 1} → statement M
+radius_change_spec = tie.close (tie.spec (λ c κs. tt) (λ c κs. tt) (λ c κs. tt) (λ c κs. tt) returns)

@@ -3,18 +3,18 @@ use Rattle.corner.specs.Cut.{round_handles}
 use Rattle.corner.proofs.corner.Corner.round_handles.Statement.{statement}
 use Rattle.corner.proofs.corner.Corner.round_handles.Tie as tie
 
-returns : tie.Need-returns
+returns : tie.Need-returns-then-straight_sides
 unfolding round_handles
 returns c =
     let t = c.before.before in
-    rw (c.arc-handle.ensures, c.before.dot.ensures, ← t.before.straight-sides.ensures, t.if1.true)
+    rw (c.arc_handle.ensures, c.dot.ensures, ← c.straight_sides.ensures, c.if-straight_sides.true)
 
-returns-2 : tie.Need-returns-2
+returns-2 : tie.Need-returns
 unfolding round_handles
-returns-2 c = rw (c.tangent-handles.ensures, ← c.before.before.straight-sides.ensures, c.before.if1.false)
+returns-2 c = rw (c.tangent_handles.ensures, ← c.straight_sides.ensures, c.if-straight_sides.false)
 
-pub round-handles-spec : {M : Type 1} → statement M
-round-handles-spec =
+pub round_handles_spec : {M : Type 1} → statement M
+round_handles_spec =
     tie.close
     (tie.spec
     (λ c κs. tt)

@@ -7,7 +7,7 @@ returns : tie.Need-returns
 unfolding rounded
 returns c =
     let o = c.before.before in
-    rw (c.sub2.ensures, c.before.mul2.ensures, o.sub.ensures, o.before.mul.ensures, o.before.before.round-handles.ensures)
+    rw (c.sub-2.ensures, c.mul-2.ensures, c.sub.ensures, c.mul.ensures, c.round_handles-h.ensures)
 
-pub rounded-spec : {M : Type 1} → statement M
-rounded-spec = tie.close (tie.spec (λ c κs. tt) (λ c κs. tt) (λ c κs. tt) (λ c κs. tt) (λ c κs. tt) returns)
+pub rounded_spec : {M : Type 1} → statement M
+rounded_spec = tie.close (tie.spec (λ c κs. tt) (λ c κs. tt) (λ c κs. tt) (λ c κs. tt) (λ c κs. tt) returns)

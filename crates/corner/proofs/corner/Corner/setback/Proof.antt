@@ -7,5 +7,5 @@ returns : tie.Need-returns
 unfolding setback
 returns c = cc
 
-pub setback-spec : {M : Type 1} → statement M
-setback-spec = tie.close (tie.spec (λ c κs. tt) (λ c κs. tt) returns)
+pub setback_spec : {M : Type 1} → statement M
+setback_spec = tie.close (tie.spec (λ c κs. tt) (λ c κs. tt) returns)

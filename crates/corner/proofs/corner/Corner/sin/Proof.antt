@@ -5,7 +5,7 @@ use Rattle.corner.proofs.corner.Corner.sin.Tie as tie
 
 returns : tie.Need-returns
 unfolding sin
-returns c = rw (c.abs.ensures, c.before.cross.ensures)
+returns c = rw (c.abs.ensures, c.cross.ensures)
 
-pub sin-spec : {M : Type 1} → statement M
-sin-spec = tie.close (tie.spec (λ c κs. tt) (λ c κs. tt) returns)
+pub sin_spec : {M : Type 1} → statement M
+sin_spec = tie.close (tie.spec (λ c κs. tt) (λ c κs. tt) returns)

@@ -32,40 +32,40 @@ none : (o : Side) → Near o.c 4 → Nowhere ≡ direction o
 unfolding direction towards
 none o n = rw (n 1 (omega arith) (omega arith), n 2 (omega arith) (omega arith), n 3 (omega arith) (omega arith))
 
-abbrev invariant-loop : tie.invariant-loop
+abbrev invariant-loop : tie.invariant-loop-k
 invariant-loop c k₀ k = (1 ≤ k) × (k ≤ 4) × Near c k
 
-abbrev decreases-loop : tie.decreases-loop
+abbrev decreases-loop : tie.decreases-loop-k
 decreases-loop c k₀ k = 4 - k
 
-loop-holds : tie.Need-loop-init invariant-loop decreases-loop
+loop-holds : tie.Need-loop-k-init invariant-loop decreases-loop
 loop-holds c = (omega arith, omega arith, λ j h l. absurd (omega arith))
 
 -- what is made of the point that was found
-made : (c : tie.After-mul invariant-loop decreases-loop) → c.mul.result ≡ unit c.before.before.before.before.sub.result
+made : (c : tie.After-mul invariant-loop decreases-loop) → c.mul.result ≡ unit c.before.before.before.before.sub-d.result
 unfolding unit
-made c = rw (c.mul.ensures, c.before.len.ensures)
+made c = rw (c.mul.ensures, c.before.len-far.ensures)
 
-returns : tie.Need-returns invariant-loop decreases-loop
+returns : tie.Need-returns-then-beyond invariant-loop decreases-loop
 returns c =
     let b = c.before.before.before in
-    let d = b.before.sub.ensures in
-    let l = b.before.before.before.before.before.loop in
-    ap Along (made c ∙ ap unit d) ∙ found _ l.k l.invariant.0 (omega arith) l.invariant.2 (rw (b.beyond.ensures, d) at c.before.before.if1.true)
+    let d = b.before.sub-d.ensures in
+    let l = b.before.before.before.before.before.loop-k in
+    ap Along (made c ∙ ap unit d) ∙ found _ l.k l.invariant.0 (omega arith) l.invariant.2 (rw (b.beyond.ensures, d) at c.before.before.if-beyond.true)
 
-loop-again : tie.Need-loop-preserved invariant-loop decreases-loop
+loop-again : tie.Need-loop-k-preserved invariant-loop decreases-loop
 loop-again c =
     let b = c.before in
-    let l = b.before.before.before.before.before.loop in
-    (omega arith, omega arith, below_more _ _ l.invariant.2 (λ _. rw (b.beyond.ensures, b.before.sub.ensures) at c.if1.false))
+    let l = b.before.before.before.before.before.loop-k in
+    (omega arith, omega arith, below_more _ _ l.invariant.2 (λ _. rw (b.beyond.ensures, b.before.sub-d.ensures) at c.if-beyond.false))
 
-returns-2 : tie.Need-returns-2 invariant-loop decreases-loop
+returns-2 : tie.Need-returns invariant-loop decreases-loop
 returns-2 c =
-    let l = c.before.loop in
+    let l = c.before.loop-k in
     none _ (λ j h. l.invariant.2 j (omega arith))
 
-pub direction-spec : {M : Type 1} → statement M
-direction-spec =
+pub direction_spec : {M : Type 1} → statement M
+direction_spec =
     tie.close
     (tie.spec
     invariant-loop

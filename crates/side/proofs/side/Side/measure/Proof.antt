@@ -8,23 +8,23 @@ use Rattle.side.proofs.Lengths.{length_last}
 use Rattle.side.proofs.side.Side.measure.Statement.{statement}
 use Rattle.side.proofs.side.Side.measure.Tie as tie
 
-returns : tie.Need-returns
+returns : tie.Need-returns-then-is_straight_side
 unfolding Serves OnLine
 returns c =
-    let e = sym c.before.is-straight-side.ensures ∙ c.if1.true in
+    let e = sym c.before.is_straight_side.ensures ∙ c.if-is_straight_side.true in
     (λ line. line e, λ curved. absurd (true≢false (sym e ∙ curved)))
 
-returns-2 : tie.Need-returns-2
+returns-2 : tie.Need-returns
 unfolding Serves
 returns-2 c =
     let t = c.before.before.before in
     let f = t.before.before in
-    let e = sym f.before.is-straight-side.ensures ∙ f.if1.false in
+    let e = sym f.before.is_straight_side.ensures ∙ f.if-is_straight_side.false in
     let s = f.before.before.before.before in
-    (λ line. ap (λ l. entry l 128) t.arclen-table.ensures ∙ sym (length_last 128 s.args.self e), λ curved. t.arclen-table.ensures)
+    (λ line. ap (λ l. entry l 128) t.arclen_table.ensures ∙ sym (length_last 128 s.args.self e), λ curved. t.arclen_table.ensures)
 
-pub measure-spec : {M : Type 1} → statement M
-measure-spec =
+pub measure_spec : {M : Type 1} → statement M
+measure_spec =
     tie.close
     (tie.spec
     (λ c κs. tt)

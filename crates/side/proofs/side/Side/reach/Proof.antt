@@ -6,29 +6,29 @@ use Rattle.side.specs.Side.{length_of, long_enough, OnLine}
 use Rattle.side.proofs.side.Side.reach.Statement.{statement}
 use Rattle.side.proofs.side.Side.reach.Tie as tie
 
-returns : tie.Need-returns
+returns : tie.Need-returns-then-is_straight_side
 unfolding length_of OnLine
 returns c =
     let t = c.before.before.before in
-    let e = sym t.before.is-straight-side.ensures ∙ t.if1.true in
-    (rw e (ap long_enough c.dist-near.ensures), λ line. rw e c.dist-near.ensures)
+    let e = sym t.before.is_straight_side.ensures ∙ t.if-is_straight_side.true in
+    (rw e (ap long_enough c.dist_near.ensures), λ line. rw e c.dist_near.ensures)
 
-returns-2 : tie.Need-returns-2
+returns-2 : tie.Need-returns-then-curve_in_limit
 unfolding length_of OnLine
 returns-2 c =
     let t = c.before.before.before in
-    let e = sym t.before.is-straight-side.ensures ∙ t.if1.false in
-    (rw e c.first-chords.ensures, λ line. absurd (true≢false (sym line ∙ e)))
+    let e = sym t.before.is_straight_side.ensures ∙ t.if-is_straight_side.false in
+    (rw e c.first_chords.ensures, λ line. absurd (true≢false (sym line ∙ e)))
 
-returns-3 : tie.Need-returns-3
+returns-3 : tie.Need-returns
 unfolding length_of OnLine
 returns-3 c =
     let t = c.before.before.before in
-    let e = sym t.before.is-straight-side.ensures ∙ t.if1.false in
-    (rw e (ap long_enough c.curve-length.ensures), λ line. absurd (true≢false (sym line ∙ e)))
+    let e = sym t.before.is_straight_side.ensures ∙ t.if-is_straight_side.false in
+    (rw e (ap long_enough c.curve_length.ensures), λ line. absurd (true≢false (sym line ∙ e)))
 
-pub reach-spec : {M : Type 1} → statement M
-reach-spec =
+pub reach_spec : {M : Type 1} → statement M
+reach_spec =
     tie.close
     (tie.spec
     (λ c κs. tt)
@@ -37,7 +37,7 @@ reach-spec =
     (λ c κs. tt)
     returns
     (λ c κs. tt)
-    (λ c κs. sym c.before.curve-in-limit.ensures ∙ c.if2.true)
+    (λ c κs. sym c.before.curve_in_limit.ensures ∙ c.if-curve_in_limit.true)
     returns-2
     (λ c κs. tt)
     returns-3)
