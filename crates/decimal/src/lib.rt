@@ -1,4 +1,6 @@
 // A number as decimal text, written into a lent buffer. What would fall past the buffer's end is counted and not stored.
+#![tactic(auto)]
+
 mod bytes;
 mod lengths;
 mod rounding;

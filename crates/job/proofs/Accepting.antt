@@ -1,14 +1,14 @@
 -- A job within the limits is read to its end word. Assumes nothing.
-use mathlib.Core.Path.{◌≡◌, refl, sym, ◌∙◌}
+use mathlib.Core.Path.{◌≡◌, refl, ◌∙◌}
 use mathlib.Core.Logic.{inl, inr}
-use mathlib.Core.Bool.{Bool, true, false, ◌&&◌, ◌||◌, cond, or_true}
-use mathlib.Core.List.{List, [], ◌∷◌, ◌++◌}
+use mathlib.Core.Bool.{Bool, true, false, ◌&&◌, ◌||◌, cond, or-true}
+use mathlib.Core.List.{List, [], ◌∷◌}
 use mathlib.Core.Option.{Option, none, some}
-use Prim.Native.Nat.{ℕ, zero, suc, ◌+◌, ◌≤◌, ◌<◌}
+use Prim.Native.Nat.{ℕ, suc, ◌+◌, ◌≤◌, ◌<◌}
 use native.Mathlib.Omega.{arith}
-use lib.Dec.{leb, ltb, eqb}
+use lib.Dec.{ltb, eqb}
 use lib.ListN.{length, length-append}
-use borrow.Author.Tests.{eqb-true, lt-ltb, lt-leb, ne_eqb, ltb-true}
+use borrow.Author.Tests.{lt-ltb, lt-leb, ne_eqb}
 use Rattle.job.specs.declared.order.Seen.{Seen}
 use Rattle.job.specs.declared.reading.Scan.TheVariants.{Done}
 use Rattle.job.specs.Words.{Word, word}
@@ -141,7 +141,7 @@ record Between (m n : ℕ) (s : Seen) : Type 0 where
 
 between : (m n : ℕ) (s : Seen) → At m n s → Between m n s
 between m n s h =
-    record { unended = whole_unended s.last h.whole; follows = rw h.whole (or_true (eqb s.last 0)); subpaths = h.subpaths; anchors = h.anchors }
+    record { unended = whole_unended s.last h.whole; follows = rw h.whole (or-true (eqb s.last 0)); subpaths = h.subpaths; anchors = h.anchors }
 
 one_bit : (c : Bool) → ltb (cond c 1 0) 2 ≡ true
 one_bit true = refl

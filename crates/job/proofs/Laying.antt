@@ -3,19 +3,18 @@ use mathlib.Core.Path.{◌≡◌, refl, sym, ap, ap₂, ◌∙◌}
 use mathlib.Core.Bool.{Bool, true, false, ◌||◌, cond}
 use mathlib.Core.List.{List, [], ◌∷◌, ◌++◌, map, append_assoc}
 use mathlib.Core.Option.{Option, none, some}
-use Prim.Native.Nat.{ℕ, zero, suc, ◌+◌, ◌-◌, ◌*◌, ◌≤◌, ◌<◌}
+use Prim.Native.Nat.{ℕ, zero, suc, ◌+◌, ◌-◌, ◌*◌, ◌<◌}
 use native.Mathlib.Nat.{add-zero, not-suc-le-zero, le_of_suc-le-suc}
 use native.Mathlib.Numerals.{add-one}
 use native.Mathlib.Omega.{arith}
 use lib.Dec.{eqb, lit<}
-use lib.ListN.{length, set, length-append}
+use lib.ListN.{length, set}
 use lib.Seq.{sets, set-set, set_comm}
 use lib.Ieee.{Float}
 use Rattle.real.specs.Operators.{0f}
-use Rattle.job.specs.Words.{Word, word}
+use Rattle.job.specs.Words.{Word}
 use Rattle.job.specs.Number.{number}
 use Rattle.job.specs.Grammar.{Pair, Anchor, Subpath, Job, pair_then, radius_then, rest_then, anchor_then, anchors_then, subpaths_then, end, spelled, anchors_of}
-use Rattle.job.specs.Order.{count_subpath, count_anchor, shape_after}
 use Rattle.job.specs.Content.{shape_word, shape_words, handle, radius, radius_of, six_of, numbers_of, job_numbers, job_radii}
 use Rattle.job.specs.Lists.{put_shape, put_number, put_radius, lay_shapes, lay_numbers, lay_radii}
 

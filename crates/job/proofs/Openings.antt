@@ -1,11 +1,11 @@
 -- The words before a refused word begin some job: whatever was read up to there can be ended. Assumes nothing.
 use mathlib.Core.Path.{◌≡◌, refl, sym, ap, subst, ◌∙◌}
-use mathlib.Core.Bool.{Bool, true, false, ◌&&◌, ◌||◌, cond}
+use mathlib.Core.Bool.{Bool, true, false, ◌||◌, cond}
 use mathlib.Core.List.{List, [], ◌∷◌, ◌++◌, map}
-use Prim.Native.Nat.{ℕ, zero, suc, ◌+◌, ◌≤◌, ◌<◌}
+use Prim.Native.Nat.{ℕ, zero, suc, ◌+◌, ◌<◌}
 use native.Mathlib.Nat.{le_of_suc-le-suc}
 use native.Mathlib.Omega.{arith}
-use lib.Dec.{leb, ltb, eqb}
+use lib.Dec.{ltb, eqb}
 use lib.ListN.{length, take, length-map}
 use borrow.Author.Tests.{ne_eqb, eqb-true, ltb-true, lt-ltb, lt-leb}
 use Rattle.job.specs.declared.order.Seen.{Seen}
@@ -15,12 +15,12 @@ use Rattle.job.specs.Words.{Word, word, split, joined, word_list}
 use Rattle.job.specs.Grammar.{Job, end, written, Within}
 use Rattle.job.specs.Order.{member, wholes, rows, after_in, may_follow, payloads, is_full, refusal_of, count_subpath, advance, start}
 use Rattle.job.specs.Content.{job_of}
-use Rattle.job.specs.Reading.{settle, scan_from, scanned, refused, accepted, reading_of, reading}
+use Rattle.job.specs.Reading.{settle, scan_from, scanned, refused, reading_of, reading}
 use Rattle.job.proofs.Orders.{Each, by_members, by_rows, Passed, passed}
 use Rattle.job.proofs.Scans.{scan_on}
 use Rattle.job.proofs.Accepting.{Reaches, on}
 use Rattle.job.proofs.Theorems.{sound}
-use Rattle.job.proofs.Prefixes.{place_after, list_prefix}
+use Rattle.job.proofs.Prefixes.{list_prefix}
 
 -- ---- what was read, by the last word's kind l and m subpaths: none before the first subpath's word, and some from there on
 abbrev kinds : List ℕ

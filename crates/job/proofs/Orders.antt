@@ -1,11 +1,11 @@
 -- Laws of the order of words: members of a list, the rows by cases, and what a word that is read has passed. Assumes nothing.
 use mathlib.Core.Path.{◌≡◌, refl, sym, subst}
 use mathlib.Core.Logic.{◌⊎◌, ⊎_elim, inl, inr}
-use mathlib.Core.Bool.{Bool, true, false, not, ◌&&◌, ◌||◌, cond, or_true, or-false}
+use mathlib.Core.Bool.{Bool, true, false, not, ◌&&◌, ◌||◌, cond, or-true, or-false}
 use mathlib.Core.List.{List, [], ◌∷◌}
-use Prim.Native.Nat.{ℕ, zero, suc, ◌+◌, ◌*◌, ◌≤◌, ◌<◌}
+use Prim.Native.Nat.{ℕ, ◌+◌, ◌*◌, ◌≤◌, ◌<◌}
 use native.Mathlib.Omega.{arith}
-use lib.Dec.{leb, ltb, eqb}
+use lib.Dec.{ltb, eqb}
 use types.Run.{OneOf}
 use borrow.Author.Tests.{eq-eqb, ne_eqb, lt-ltb, le-ltb, eqb-true, ltb-true, leb-false}
 use Rattle.job.specs.declared.order.Seen.{Seen}
@@ -16,7 +16,7 @@ pub member_of : (xs : List ℕ) (x : ℕ) → OneOf xs x → member x xs ≡ tru
 unfolding member
 member_of [] x h = absurd h
 member_of (y ∷ []) x h = rw (eq-eqb x y h)
-member_of (y ∷ z ∷ zs) x h = ⊎_elim (λ e. rw (eq-eqb x y e)) (λ k. rw (member_of (z ∷ zs) x k) (or_true (eqb x y))) h
+member_of (y ∷ z ∷ zs) x h = ⊎_elim (λ e. rw (eq-eqb x y e)) (λ k. rw (member_of (z ∷ zs) x k) (or-true (eqb x y))) h
 
 pub not-member : (xs : List ℕ) (x : ℕ) → (OneOf xs x → ⊥) → member x xs ≡ false
 unfolding member

@@ -8,7 +8,7 @@ use lib.ListN.{replicate}
 use lib.Ieee.{Float, binary64, of_bits, of_int, div, round, neg}
 use Rattle.job.specs.Number.{number}
 use Rattle.job.specs.Grammar.{Anchor, Job, written, anchors_of}
-use Rattle.job.specs.Content.{pair, shape_word, six_of, numbers_of, radius_of, shape_words, job_numbers, job_radii}
+use Rattle.job.specs.Content.{pair, shape_word, numbers_of, radius_of, shape_words, job_numbers, job_radii}
 use Rattle.job.specs.Reading.{refused, accepted, reading}
 
 -- ---- the square of 8 mm, radius 2 at its first corner

@@ -1,14 +1,13 @@
 -- What a reading that reaches the end word has shown of its words. Assumes nothing.
 use mathlib.Core.Path.{◌≡◌, refl, sym, ap, subst, ◌∙◌}
-use mathlib.Core.Bool.{Bool, true, false, ◌&&◌, cond}
-use mathlib.Core.List.{List, [], ◌∷◌, ◌++◌}
-use Prim.Native.Nat.{ℕ, zero, suc, ◌+◌, ◌≤◌, ◌<◌}
+use mathlib.Core.Bool.{Bool, true, false, cond}
+use mathlib.Core.List.{List, [], ◌∷◌}
+use Prim.Native.Nat.{ℕ, zero, suc, ◌+◌, ◌≤◌}
 use native.Mathlib.Omega.{arith}
-use lib.Dec.{ltb, eqb}
+use lib.Dec.{eqb}
 use lib.ListN.{length, length-append}
 use borrow.Author.Tests.{eqb-true, eqb-false, eq-eqb}
 use Rattle.job.specs.declared.order.Seen.{Seen}
-use Rattle.job.specs.declared.reading.Scan.{Scan}
 use Rattle.job.specs.declared.reading.Scan.TheVariants.{Refused, Done}
 use Rattle.job.specs.Words.{Word, word}
 use Rattle.job.specs.Grammar.{anchors_of}

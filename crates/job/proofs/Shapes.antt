@@ -1,8 +1,8 @@
 -- Words in order write what they read as: by the kind of the word before them, what they must begin with. Assumes nothing.
-use mathlib.Core.Path.{◌≡◌, refl, sym, ap, ◌∙◌}
-use mathlib.Core.Bool.{Bool, true, false, ◌||◌, cond}
+use mathlib.Core.Path.{◌≡◌, refl, ap, ◌∙◌}
+use mathlib.Core.Bool.{true, ◌||◌, cond}
 use mathlib.Core.List.{List, [], ◌∷◌}
-use mathlib.Core.Option.{Option, none, some}
+use mathlib.Core.Option.{none}
 use Prim.Native.Nat.{ℕ, zero, suc, ◌<◌}
 use native.Mathlib.Omega.{arith}
 use lib.Dec.{ltb, eqb}
@@ -10,7 +10,7 @@ use borrow.Author.Tests.{ltb-true}
 use Rattle.job.specs.Words.{Word, word}
 use Rattle.job.specs.Grammar.{pair_then, radius_then, rest_then, anchor_then, anchors_then, subpaths_then, end}
 use Rattle.job.specs.Order.{wholes, rows, payloads}
-use Rattle.job.specs.Content.{Part, nothing, on_word, part_of}
+use Rattle.job.specs.Content.{Part, part_of}
 use Rattle.job.proofs.Orders.{Each}
 
 -- the words of a part

@@ -2,7 +2,7 @@
 use mathlib.Core.Path.{◌≡◌, refl, sym, ap, ap₂, subst, ◌∙◌}
 use mathlib.Core.Bool.{Bool, true, false, ◌&&◌}
 use mathlib.Core.List.{List, [], ◌∷◌, map}
-use Prim.Native.Nat.{ℕ, zero, suc, ◌+◌, ◌*◌, ◌/◌, ◌%◌, ◌≤◌, ◌<◌}
+use Prim.Native.Nat.{ℕ, ◌+◌, ◌*◌, ◌/◌, ◌%◌, ◌≤◌, ◌<◌}
 use native.Mathlib.Omega.{arith}
 use lib.Dec.{ltb}
 use lib.ListN.{length}
@@ -12,9 +12,9 @@ use Rattle.job.specs.declared.reading.Scan.{Scan}
 use Rattle.job.specs.declared.reading.Scan.TheVariants.{Refused, Done}
 use Rattle.job.specs.Words.{Word, word, split, joined, word_list}
 use Rattle.job.specs.Grammar.{Job, rest_then, pair_then, radius_then, anchors_then, subpaths_then, end, spelled, written, anchors_of, in_range, Within}
-use Rattle.job.specs.Order.{payloads, count_subpath, advance, start, Fair}
-use Rattle.job.specs.Content.{part_of, job_of}
-use Rattle.job.specs.Reading.{scan_from, scanned, Reading, refused, accepted, reading_of, reading}
+use Rattle.job.specs.Order.{payloads, advance, start, Fair}
+use Rattle.job.specs.Content.{job_of}
+use Rattle.job.specs.Reading.{scan_from, scanned, accepted, reading_of, reading}
 use Rattle.job.proofs.Shapes.{Shaped}
 use Rattle.job.proofs.Scans.{scan_word, scan_shaped, scan_counts, scan_fair, scan_some, scan_head}
 use Rattle.job.proofs.Spelling.{job-back}

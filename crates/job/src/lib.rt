@@ -1,4 +1,6 @@
 // The job file (document 01, 'Job file and program'): little-endian words, and the order in which they may come.
+#![tactic(auto)]
+
 mod order;
 mod reading;
 mod words;

@@ -5,7 +5,7 @@ ghost use Rattle.job.specs.Order.{is_whole, may_follow, payloads, is_full, refus
 
 // What has been read: the head's payload, the last word's kind (16 before the first), the shape word of the subpath
 // so far, and how many subpaths and anchors have begun.
-#[derive(Drop)]
+#[derive(Clone, Copy)]
 pub struct Seen {
     pub head: u32,
     pub last: u32,

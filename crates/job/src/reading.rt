@@ -2,7 +2,7 @@
 use crate::order::Seen;
 
 // A refusal, or what was read up to the end word.
-#[derive(Drop)]
+#[derive(Clone, Copy)]
 pub enum Scan {
     Refused(u32, usize),
     Done(Seen),

@@ -1,10 +1,10 @@
 -- What the tests of `read` come to, and what is then answered and left. Assumes nothing.
-use mathlib.Core.Path.{◌≡◌, refl, sym, ap, ap₂, ◌∙◌}
+use mathlib.Core.Path.{◌≡◌, refl, sym, ap, ◌∙◌}
 use mathlib.Core.Bool.{Bool, true, false, ◌&&◌, cond}
-use mathlib.Core.List.{List, map}
-use Prim.Native.Nat.{ℕ, ◌+◌, ◌*◌, ◌/◌, ◌%◌, ◌≤◌, ◌<◌}
+use mathlib.Core.List.{List}
+use Prim.Native.Nat.{ℕ, ◌+◌, ◌*◌, ◌/◌, ◌%◌, ◌≤◌}
 use native.Mathlib.Omega.{arith}
-use lib.Dec.{leb, eqb}
+use lib.Dec.{leb}
 use lib.ListN.{length, get_or, length-map}
 use lib.Seq.{sets}
 use lib.Ieee.{Float, nan}
@@ -15,12 +15,12 @@ use Rattle.views.proofs.Runs.{get_d_sets_in}
 use Rattle.job.specs.declared.order.Seen.{Seen}
 use Rattle.job.specs.declared.reading.Scan.TheVariants as scan
 use Rattle.job_calls.specs.declared.call.Job.TheVariants.{Refused, Read}
-use Rattle.job.specs.Words.{words_of, word_list}
-use Rattle.job.specs.Grammar.{Job, spelled}
+use Rattle.job.specs.Words.{words_of}
+use Rattle.job.specs.Grammar.{Job}
 use Rattle.job.specs.Content.{job_of, shape_word, shape_words, radius_of, job_anchors, job_numbers, job_radii}
 use Rattle.job.specs.Lists.{lay_shapes, lay_numbers, lay_radii}
-use Rattle.job.specs.Reading.{scan_from, scanned, Reading, refused, accepted, reading_of, reading}
-use Rattle.job_calls.specs.Call.{file_read, roomed, outcome, answer_of, shapes_left, anchors_left, radii_left, room_for, room_in, handed_answer, handed, readAnswer, readShapes, readAnchors, readRadii}
+use Rattle.job.specs.Reading.{scanned, refused, accepted, reading_of, reading}
+use Rattle.job_calls.specs.Call.{file_read, roomed, outcome, answer_of, shapes_left, anchors_left, radii_left, room_for, room_in, handed_answer, handed, answer_read, shapes_read, anchors_read, radii_read}
 use Rattle.job.proofs.Theorems.{Scanned, scan_scanned}
 use Rattle.job.proofs.Laying.{shapes_laid, numbers-laid, numbers-length, radii_laid}
 use Rattle.job_calls.proofs.Turns.{words_in}
@@ -58,20 +58,20 @@ module _ (bytes shapes : List ℕ) (anchors radii : List Float) where
 
   -- what a refusal answers and leaves
   module _ (n place : ℕ) (e : outcome bytes shapes anchors radii ≡ refused n place) where
-    pub refused-answer : Refused n place ≡ readAnswer bytes shapes anchors radii
-    unfolding readAnswer answer_of
+    pub refused-answer : Refused n place ≡ answer_read bytes shapes anchors radii
+    unfolding answer_read answer_of
     refused-answer = sym (ap answer_of e)
 
-    pub refused_shapes : shapes ≡ readShapes bytes shapes anchors radii
-    unfolding readShapes shapes_left
+    pub refused_shapes : shapes ≡ shapes_read bytes shapes anchors radii
+    unfolding shapes_read shapes_left
     refused_shapes = sym (ap (λ r. shapes_left r shapes) e)
 
-    pub refused_anchors : anchors ≡ readAnchors bytes shapes anchors radii
-    unfolding readAnchors anchors_left
+    pub refused_anchors : anchors ≡ anchors_read bytes shapes anchors radii
+    unfolding anchors_read anchors_left
     refused_anchors = sym (ap (λ r. anchors_left r anchors) e)
 
-    pub refused_radii : radii ≡ readRadii bytes shapes anchors radii
-    unfolding readRadii radii_left
+    pub refused_radii : radii ≡ radii_read bytes shapes anchors radii
+    unfolding radii_read radii_left
     refused_radii = sym (ap (λ r. radii_left r radii) e)
 
   -- ---- read to the end word
@@ -99,13 +99,13 @@ module _ (bytes shapes : List ℕ) (anchors radii : List Float) where
       unfolding outcome roomed
       all_hold = rw (read-job, sym room-is ∙ room)
 
-      read_answer : Read t.head t.subpaths t.anchors ≡ readAnswer bytes shapes anchors radii
-      unfolding readAnswer answer_of
+      read_answer : Read t.head t.subpaths t.anchors ≡ answer_read bytes shapes anchors radii
+      unfolding answer_read answer_of
       read_answer = rw (facts.head, facts.subpaths, facts.anchors) (sym (ap answer_of all_hold))
 
       -- from the lists that the words were laid to
-      read_shapes : (zs ws : List ℕ) → length zs ≡ 32 → ws ≡ lay_shapes 0 0 (words_in bytes) zs → overwrite t.subpaths (λ i. get_or ws i 0) shapes ≡ readShapes bytes shapes anchors radii
-      unfolding readShapes shapes_left
+      read_shapes : (zs ws : List ℕ) → length zs ≡ 32 → ws ≡ lay_shapes 0 0 (words_in bytes) zs → overwrite t.subpaths (λ i. get_or ws i 0) shapes ≡ shapes_read bytes shapes anchors radii
+      unfolding shapes_read shapes_left
       read_shapes zs ws l e =
           let f = facts in
           let g = f.fair in
@@ -114,8 +114,8 @@ module _ (bytes shapes : List ℕ) (anchors radii : List Float) where
           (copied 0 (shape_words j) zs shapes t.subpaths (f.subpaths ∙ sym n) (omega (arith, g.subpaths, f.subpaths))
           ∙ rw f.subpaths (sym (ap (λ r. shapes_left r shapes) all_hold)))
 
-      read_anchors : (zs ws : List Float) → length zs ≡ 3072 → ws ≡ lay_numbers 0 (words_in bytes) zs → overwrite (t.anchors * 6) (entry ws) anchors ≡ readAnchors bytes shapes anchors radii
-      unfolding readAnchors anchors_left
+      read_anchors : (zs ws : List Float) → length zs ≡ 3072 → ws ≡ lay_numbers 0 (words_in bytes) zs → overwrite (t.anchors * 6) (entry ws) anchors ≡ anchors_read bytes shapes anchors radii
+      unfolding anchors_read anchors_left
       read_anchors zs ws l e =
           let f = facts in
           let g = f.fair in
@@ -124,8 +124,8 @@ module _ (bytes shapes : List ℕ) (anchors radii : List Float) where
           (copied nan (job_numbers j) zs anchors (t.anchors * 6) (ap (λ m. m * 6) f.anchors ∙ sym n) (omega (arith, g.anchors, f.anchors))
           ∙ rw f.anchors (sym (ap (λ r. anchors_left r anchors) all_hold)))
 
-      read_radii : (zs ws : List Float) → length zs ≡ 512 → ws ≡ lay_radii 0 (words_in bytes) zs → overwrite t.anchors (entry ws) radii ≡ readRadii bytes shapes anchors radii
-      unfolding readRadii radii_left
+      read_radii : (zs ws : List Float) → length zs ≡ 512 → ws ≡ lay_radii 0 (words_in bytes) zs → overwrite t.anchors (entry ws) radii ≡ radii_read bytes shapes anchors radii
+      unfolding radii_read radii_left
       read_radii zs ws l e =
           let f = facts in
           let g = f.fair in
@@ -138,34 +138,34 @@ module _ (bytes shapes : List ℕ) (anchors radii : List Float) where
     abbrev room : Bool
     room = room_in t shapes anchors radii
 
-    pub handed-answer : handed_answer room t ≡ readAnswer bytes shapes anchors radii
+    pub handed-answer : handed_answer room t ≡ answer_read bytes shapes anchors radii
     unfolding handed_answer
     handed-answer = go room refl
       where
-        go : (b : Bool) → room ≡ b → cond b (Read t.head t.subpaths t.anchors) (Refused 8 0) ≡ readAnswer bytes shapes anchors radii
+        go : (b : Bool) → room ≡ b → cond b (Read t.head t.subpaths t.anchors) (Refused 8 0) ≡ answer_read bytes shapes anchors radii
         go true e = read_answer e
         go false e = refused-answer 8 0 (room_fails e)
 
-    pub handed_shapes_lem : (zs ws : List ℕ) → length zs ≡ 32 → ws ≡ lay_shapes 0 0 (words_in bytes) zs → handed room t.subpaths (λ i. get_or ws i 0) shapes ≡ readShapes bytes shapes anchors radii
+    pub handed_shapes_lem : (zs ws : List ℕ) → length zs ≡ 32 → ws ≡ lay_shapes 0 0 (words_in bytes) zs → handed room t.subpaths (λ i. get_or ws i 0) shapes ≡ shapes_read bytes shapes anchors radii
     unfolding handed
     handed_shapes_lem zs ws l laid = go room refl
       where
-        go : (b : Bool) → room ≡ b → cond b (overwrite t.subpaths (λ i. get_or ws i 0) shapes) shapes ≡ readShapes bytes shapes anchors radii
+        go : (b : Bool) → room ≡ b → cond b (overwrite t.subpaths (λ i. get_or ws i 0) shapes) shapes ≡ shapes_read bytes shapes anchors radii
         go true e = read_shapes e zs ws l laid
         go false e = refused_shapes 8 0 (room_fails e)
 
-    pub handed_anchors_lem : (zs ws : List Float) → length zs ≡ 3072 → ws ≡ lay_numbers 0 (words_in bytes) zs → handed room (t.anchors * 6) (entry ws) anchors ≡ readAnchors bytes shapes anchors radii
+    pub handed_anchors_lem : (zs ws : List Float) → length zs ≡ 3072 → ws ≡ lay_numbers 0 (words_in bytes) zs → handed room (t.anchors * 6) (entry ws) anchors ≡ anchors_read bytes shapes anchors radii
     unfolding handed
     handed_anchors_lem zs ws l laid = go room refl
       where
-        go : (b : Bool) → room ≡ b → cond b (overwrite (t.anchors * 6) (entry ws) anchors) anchors ≡ readAnchors bytes shapes anchors radii
+        go : (b : Bool) → room ≡ b → cond b (overwrite (t.anchors * 6) (entry ws) anchors) anchors ≡ anchors_read bytes shapes anchors radii
         go true e = read_anchors e zs ws l laid
         go false e = refused_anchors 8 0 (room_fails e)
 
-    pub handed_radii : (zs ws : List Float) → length zs ≡ 512 → ws ≡ lay_radii 0 (words_in bytes) zs → handed room t.anchors (entry ws) radii ≡ readRadii bytes shapes anchors radii
+    pub handed_radii : (zs ws : List Float) → length zs ≡ 512 → ws ≡ lay_radii 0 (words_in bytes) zs → handed room t.anchors (entry ws) radii ≡ radii_read bytes shapes anchors radii
     unfolding handed
     handed_radii zs ws l laid = go room refl
       where
-        go : (b : Bool) → room ≡ b → cond b (overwrite t.anchors (entry ws) radii) radii ≡ readRadii bytes shapes anchors radii
+        go : (b : Bool) → room ≡ b → cond b (overwrite t.anchors (entry ws) radii) radii ≡ radii_read bytes shapes anchors radii
         go true e = read_radii e zs ws l laid
         go false e = refused_radii 8 0 (room_fails e)

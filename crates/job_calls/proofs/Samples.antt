@@ -8,24 +8,24 @@ use Rattle.job.specs.Words.{words_of}
 use Rattle.job.specs.Grammar.{anchors_of}
 use Rattle.job.specs.Content.{shape_word}
 use Rattle.job_calls.specs.declared.call.Job.TheVariants.{Refused, Read}
-use Rattle.job_calls.specs.Call.{readAnswer, readShapes}
+use Rattle.job_calls.specs.Call.{answer_read, shapes_read}
 
-bytes_5 : (shapes : List ℕ) (anchors radii : List Float) → readAnswer (9 ∷ 9 ∷ 9 ∷ 9 ∷ 9 ∷ []) shapes anchors radii ≡ Refused 1 1
-unfolding readAnswer
+bytes_5 : (shapes : List ℕ) (anchors radii : List Float) → answer_read (9 ∷ 9 ∷ 9 ∷ 9 ∷ 9 ∷ []) shapes anchors radii ≡ Refused 1 1
+unfolding answer_read
 bytes_5 shapes anchors radii = refl
 
 -- an open subpath without an anchor
 abbrev empty_job : List ℕ
 empty_job = 1 ∷ 0 ∷ 0 ∷ 0 ∷ 0 ∷ 0 ∷ 0 ∷ 16 ∷ 0 ∷ 0 ∷ 0 ∷ 240 ∷ []
 
-empty-read : readAnswer empty_job (7 ∷ 7 ∷ []) [] [] ≡ Read 1 1 0
-unfolding readAnswer words_of tabulate anchors_of
+empty-read : answer_read empty_job (7 ∷ 7 ∷ []) [] [] ≡ Read 1 1 0
+unfolding answer_read words_of tabulate anchors_of
 empty-read = refl
 
-empty_shapes : readShapes empty_job (7 ∷ 7 ∷ []) [] [] ≡ 0 ∷ 7 ∷ []
-unfolding readShapes words_of tabulate overwrite shape_word anchors_of
+empty_shapes : shapes_read empty_job (7 ∷ 7 ∷ []) [] [] ≡ 0 ∷ 7 ∷ []
+unfolding shapes_read words_of tabulate overwrite shape_word anchors_of
 empty_shapes = refl
 
-no_room : readAnswer empty_job [] [] [] ≡ Refused 8 0
-unfolding readAnswer words_of tabulate anchors_of
+no_room : answer_read empty_job [] [] [] ≡ Refused 8 0
+unfolding answer_read words_of tabulate anchors_of
 no_room = refl

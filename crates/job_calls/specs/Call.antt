@@ -46,21 +46,21 @@ radii_left (refused n place) xs = xs
 radii_left (accepted j) xs = overwrite (length (job_anchors j)) (entry (job_radii j)) xs
 
 module _ (bytes shapes : List ℕ) (anchors radii : List Float) where
-  unfoldable pub readAnswer : declared.Job
+  unfoldable pub answer_read : declared.Job
   unfolding outcome answer_of
-  readAnswer = answer_of (outcome bytes shapes anchors radii)
+  answer_read = answer_of (outcome bytes shapes anchors radii)
 
-  unfoldable pub readShapes : List ℕ
+  unfoldable pub shapes_read : List ℕ
   unfolding outcome shapes_left
-  readShapes = shapes_left (outcome bytes shapes anchors radii) shapes
+  shapes_read = shapes_left (outcome bytes shapes anchors radii) shapes
 
-  unfoldable pub readAnchors : List Float
+  unfoldable pub anchors_read : List Float
   unfolding outcome anchors_left
-  readAnchors = anchors_left (outcome bytes shapes anchors radii) anchors
+  anchors_read = anchors_left (outcome bytes shapes anchors radii) anchors
 
-  unfoldable pub readRadii : List Float
+  unfoldable pub radii_read : List Float
   unfolding outcome radii_left
-  readRadii = radii_left (outcome bytes shapes anchors radii) radii
+  radii_read = radii_left (outcome bytes shapes anchors radii) radii
 
 -- ---- what was read, handed to the lent lists: `hand_over`
 abbrev pub room_in : Seen → List ℕ → List Float → List Float → Bool

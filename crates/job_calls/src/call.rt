@@ -7,13 +7,13 @@ ghost use Rattle.job.specs.Reading.{scanned};
 ghost use Rattle.job.specs.Lists.{lay_shapes, lay_numbers, lay_radii};
 ghost use Rattle.job.specs.declared.order.Seen.{Seen};
 ghost use Rattle.job.specs.declared.reading.Scan.TheVariants.{Done};
-ghost use Rattle.job_calls.specs.Call.{room_for, room_in, handed, handed_answer, readAnswer, readShapes, readAnchors, readRadii};
+ghost use Rattle.job_calls.specs.Call.{room_for, room_in, handed, handed_answer, answer_read, shapes_read, anchors_read, radii_read};
 
 use crate::lists::{put_number, put_radius, put_shape};
 use job::{Scan, Seen, advance, refusal_of, word_at};
 
 // A refusal's number and place, or the head's kind (0 round, 1 inverted, 2 chamfer) and how many subpaths and anchors were read.
-#[derive(Drop)]
+#[derive(Clone, Copy)]
 pub enum Job {
     Refused(u32, usize),
     Read(u32, usize, usize),
@@ -100,10 +100,10 @@ fn hand_over(
 
 // Reads a job file of any length into a drawing's lists: shape words, six numbers an anchor, a radius an anchor.
 pub fn read(bytes: &[u8], shapes: &mut [u32], anchors: &mut [f64], radii: &mut [f64]) -> Job
-    ensures answer { result ≡ readAnswer bytes.now shapes.old anchors.old radii.old }
-    ensures shapes { shapes.new ≡ readShapes bytes.now shapes.old anchors.old radii.old }
-    ensures anchors { anchors.new ≡ readAnchors bytes.now shapes.old anchors.old radii.old }
-    ensures radii { radii.new ≡ readRadii bytes.now shapes.old anchors.old radii.old }
+    ensures answer { result ≡ answer_read bytes.now shapes.old anchors.old radii.old }
+    ensures shapes { shapes.new ≡ shapes_read bytes.now shapes.old anchors.old radii.old }
+    ensures anchors { anchors.new ≡ anchors_read bytes.now shapes.old anchors.old radii.old }
+    ensures radii { radii.new ≡ radii_read bytes.now shapes.old anchors.old radii.old }
 {
     if bytes.len() % 4 != 0 {
         return Job::Refused(1, bytes.len() / 4);

@@ -1,4 +1,6 @@
 // The call that reads a job file, word by word, into a drawing's lists.
+#![tactic(auto)]
+
 mod call;
 mod lists;
 

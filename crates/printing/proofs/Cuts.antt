@@ -1,34 +1,31 @@
 -- A drawing that passes its tests: what build and assemble leave of it, and the line that is printed. Assumes nothing.
 use mathlib.Core.Path.{◌≡◌, refl, sym, ap, ap₂, ◌∙◌}
 use mathlib.Core.Logic.{⊎_elim}
-use mathlib.Core.Bool.{Bool, true}
+use mathlib.Core.Bool.{true}
 use mathlib.Core.List.{List}
 use Prim.Native.Nat.{ℕ, ◌+◌, ◌*◌, ◌≤◌, ◌<◌}
-use native.Mathlib.Nat.{le_refl}
 use native.Mathlib.Omega.{arith}
 use lib.ListN.{length, take}
 use lib.Ieee.{Float, nan}
-use Rattle.views.specs.View.{entry, tabulate, overwrite}
-use Rattle.views.specs.Search.{all}
+use Rattle.views.specs.View.{tabulate}
 use Rattle.views.proofs.Laws.{length-tabulate, at_tabulate, as_tabulate, length-overwrite, at_overwrite, overwrite_cong}
 use Rattle.views.proofs.Searches.{all_cong}
 use Rattle.real.specs.Limit.{in_limit}
-use Rattle.refusal.specs.Order.{Test, passes, fails, holds, judge, Verdict, accepted, refused}
+use Rattle.refusal.specs.Order.{passes, judge, Verdict, accepted}
 use Rattle.refusal.proofs.Verdicts.{holds_true}
 use Rattle.path.specs.declared.anchor.Anchor.{Anchor}
 use Rattle.path.specs.Shape.{total}
-use Rattle.path.specs.Flat.{anchor_at, numbers, nth, listed}
+use Rattle.path.specs.Flat.{anchor_at, nth, listed}
 use Rattle.path.specs.Limit.{anchor_in, anchor_good}
 use Rattle.path.proofs.Shapes.{Fits}
 use Rattle.path.proofs.Limits.{GoodBelow, Least, search_to}
 use Rattle.path.proofs.Places.{anchor-number}
 use Rattle.path.proofs.Puts.{listed_at}
 use Rattle.call.specs.declared.answers.Outline.TheVariants as outline
-use Rattle.call.specs.Tests.{places, outline_in, outline_limit, room_for}
+use Rattle.call.specs.Tests.{outline_in, outline_limit}
 use Rattle.call.specs.Answers.{outline_answer, list_left, anchors_left}
 use Rattle.call.proofs.Openings.{PathOpens, path_good, path_opens, places_fail, places_pass}
 use Rattle.call.proofs.Handings.{room}
-use Rattle.corner.specs.declared.cut.CornerKind.{CornerKind}
 use Rattle.cut.specs.declared.places.Place.{Place}
 use Rattle.cut.specs.View.{View}
 use Rattle.cut.specs.Subpath.{view_of}
@@ -133,27 +130,27 @@ module _ (shapes : List ℕ) (anchors radii : List Float) (kind : ℕ) (d : Draw
         (search_to (cached_in f) (total shapes))
 
   -- ---- then it is cut, with room for the outline
-  module _ (good : GoodBelow (cached_in f) (total shapes)) (toShapes : List ℕ) (to : List Float) (wide : m ≤ length toShapes) (long : length ps * 6 ≤ length to) where
+  module _ (good : GoodBelow (cached_in f) (total shapes)) (to_shapes : List ℕ) (to : List Float) (wide : m ≤ length to_shapes) (long : length ps * 6 ≤ length to) where
     outline_good : GoodBelow (outline_in ps) (length ps)
     outline_good = rw (← outline-cut shapes anchors radii d.way) (cached_outline shapes view good)
 
-    cut_accepted : cut_verdict shapes anchors radii kind toShapes to ≡ accepted
+    cut_accepted : cut_verdict shapes anchors radii kind to_shapes to ≡ accepted
     unfolding made_verdict outline_limit judge
     cut_accepted =
-        as_made shapes anchors radii kind toShapes to (total shapes) d.opens d.way d.known
-        ∙ rw (places_pass (outline_in ps) (length ps) passes outline_good, holds_true 0 (room m (length ps) toShapes to wide long))
+        as_made shapes anchors radii kind to_shapes to (total shapes) d.opens d.way d.known
+        ∙ rw (places_pass (outline_in ps) (length ps) passes outline_good, holds_true 0 (room m (length ps) to_shapes to wide long))
 
-    pub cut-answer : cut_answer shapes anchors radii kind toShapes to ≡ outline.Accepted m (length ps)
+    pub cut-answer : cut_answer shapes anchors radii kind to_shapes to ≡ outline.Accepted m (length ps)
     unfolding cut_answer outline_answer
     cut-answer = rw (cut_accepted, outline-is)
 
-    words_left : take m (cut_shapes_left shapes anchors radii kind toShapes to) ≡ outline_words shapes f
+    words_left : take m (cut_shapes_left shapes anchors radii kind to_shapes to) ≡ outline_words shapes f
     unfolding cut_shapes_left list_left
     words_left =
         rw cut_accepted
-        (ap (take m) (overwrite_cong m (cut_words shapes anchors radii (kind_of kind)) (outline_shapes shapes f) toShapes word-is) ∙ words-written shapes f toShapes wide)
+        (ap (take m) (overwrite_cong m (cut_words shapes anchors radii (kind_of kind)) (outline_shapes shapes f) to_shapes word-is) ∙ words-written shapes f to_shapes wide)
 
-    anchors_left_lem : cut_anchors_left shapes anchors radii kind toShapes to ≡ listed ps to
+    anchors_left_lem : cut_anchors_left shapes anchors radii kind to_shapes to ≡ listed ps to
     unfolding cut_anchors_left anchors_left
     anchors_left_lem = rw (cut_accepted, outline-is)
 
@@ -176,14 +173,14 @@ module _ (shapes : List ℕ) (anchors radii : List Float) (kind : ℕ) (d : Draw
         let fits : Fits (outline_words shapes f) 1024 (total (outline_words shapes f)) = record { words = omega arith; anchors = omega arith; count = refl } in
         path_opens 1024 _ _ _ (sym (path_good 1024 _ _ _ fits (omega arith) (rw total-is listed_good)))
 
-    pub cut_opens : PathOpens 1024 (take m (cut_shapes_left shapes anchors radii kind toShapes to)) (cut_anchors_left shapes anchors radii kind toShapes to) (total (take m (cut_shapes_left shapes anchors radii kind toShapes to)))
+    pub cut_opens : PathOpens 1024 (take m (cut_shapes_left shapes anchors radii kind to_shapes to)) (cut_anchors_left shapes anchors radii kind to_shapes to) (total (take m (cut_shapes_left shapes anchors radii kind to_shapes to)))
     cut_opens = rw (words_left, anchors_left_lem) opened
 
     good_text : fitted (cut_text shapes anchors radii kind) ≡ drawing_text shapes anchors radii kind
     unfolding drawing_text unless_bad cut_places
     good_text = rw (d.known, places_pass (cached_in f) (total shapes) passes good)
 
-    pub cut-text : fitted (text_of (take m (cut_shapes_left shapes anchors radii kind toShapes to)) (anchor_at (cut_anchors_left shapes anchors radii kind toShapes to))) ≡ drawing_text shapes anchors radii kind
+    pub cut-text : fitted (text_of (take m (cut_shapes_left shapes anchors radii kind to_shapes to)) (anchor_at (cut_anchors_left shapes anchors radii kind to_shapes to))) ≡ drawing_text shapes anchors radii kind
     unfolding cut_text
     cut-text =
         ap₂ (λ ws xs. fitted (text_of ws (anchor_at xs))) words_left anchors_left_lem
@@ -192,29 +189,29 @@ module _ (shapes : List ℕ) (anchors radii : List Float) (kind : ℕ) (d : Draw
 
   -- ---- and what is put together of the cache that build left is that cut
   module _ (numbers : List Float) (flags : List ℕ) (fit : cache_fits shapes numbers flags ≡ true) (x y : ℕ) (e : build_answer shapes anchors radii kind numbers flags ≡ outline.Accepted x y)
-      (toShapes : List ℕ) (to : List Float) (wide : m ≤ length toShapes) (long : length ps * 6 ≤ length to) where
+      (to_shapes : List ℕ) (to : List Float) (wide : m ≤ length to_shapes) (long : length ps * 6 ≤ length to) where
     abbrev kept : List Float
     kept = build_numbers shapes anchors radii kind numbers flags
 
     abbrev marked : List ℕ
     marked = build_flags shapes anchors radii kind numbers flags
 
-    pub assembled-answer : assemble_answer shapes (build_numbers shapes anchors radii kind numbers flags) (build_flags shapes anchors radii kind numbers flags) toShapes to ≡ outline.Accepted (length shapes) (length (cut_up_to (view_at shapes anchors radii d.way) (length shapes)))
+    pub assembled-answer : assemble_answer shapes (build_numbers shapes anchors radii kind numbers flags) (build_flags shapes anchors radii kind numbers flags) to_shapes to ≡ outline.Accepted (length shapes) (length (cut_up_to (view_at shapes anchors radii d.way) (length shapes)))
     assembled-answer =
         let g = build-accepts numbers flags fit x y e in
-        (assemble-built shapes anchors radii kind numbers flags g.1 toShapes to).0 ∙ cut-answer g.0 toShapes to wide long
+        (assemble-built shapes anchors radii kind numbers flags g.1 to_shapes to).0 ∙ cut-answer g.0 to_shapes to wide long
 
-    pub assembled_opens : PathOpens 1024 (take (length shapes) (assemble_shapes shapes (build_numbers shapes anchors radii kind numbers flags) (build_flags shapes anchors radii kind numbers flags) toShapes to))
-        (assemble_anchors shapes (build_numbers shapes anchors radii kind numbers flags) (build_flags shapes anchors radii kind numbers flags) toShapes to)
-        (total (take (length shapes) (assemble_shapes shapes (build_numbers shapes anchors radii kind numbers flags) (build_flags shapes anchors radii kind numbers flags) toShapes to)))
+    pub assembled_opens : PathOpens 1024 (take (length shapes) (assemble_shapes shapes (build_numbers shapes anchors radii kind numbers flags) (build_flags shapes anchors radii kind numbers flags) to_shapes to))
+        (assemble_anchors shapes (build_numbers shapes anchors radii kind numbers flags) (build_flags shapes anchors radii kind numbers flags) to_shapes to)
+        (total (take (length shapes) (assemble_shapes shapes (build_numbers shapes anchors radii kind numbers flags) (build_flags shapes anchors radii kind numbers flags) to_shapes to)))
     assembled_opens =
         let g = build-accepts numbers flags fit x y e in
-        let t = assemble-built shapes anchors radii kind numbers flags g.1 toShapes to in
-        rw (t.1, t.2) (cut_opens g.0 toShapes to wide long)
+        let t = assemble-built shapes anchors radii kind numbers flags g.1 to_shapes to in
+        rw (t.1, t.2) (cut_opens g.0 to_shapes to wide long)
 
-    pub assembled-text : fitted (text_of (take (length shapes) (assemble_shapes shapes (build_numbers shapes anchors radii kind numbers flags) (build_flags shapes anchors radii kind numbers flags) toShapes to))
-        (anchor_at (assemble_anchors shapes (build_numbers shapes anchors radii kind numbers flags) (build_flags shapes anchors radii kind numbers flags) toShapes to))) ≡ drawing_text shapes anchors radii kind
+    pub assembled-text : fitted (text_of (take (length shapes) (assemble_shapes shapes (build_numbers shapes anchors radii kind numbers flags) (build_flags shapes anchors radii kind numbers flags) to_shapes to))
+        (anchor_at (assemble_anchors shapes (build_numbers shapes anchors radii kind numbers flags) (build_flags shapes anchors radii kind numbers flags) to_shapes to))) ≡ drawing_text shapes anchors radii kind
     assembled-text =
         let g = build-accepts numbers flags fit x y e in
-        let t = assemble-built shapes anchors radii kind numbers flags g.1 toShapes to in
-        rw (t.1, t.2) (cut-text g.0 toShapes to wide long)
+        let t = assemble-built shapes anchors radii kind numbers flags g.1 to_shapes to in
+        rw (t.1, t.2) (cut-text g.0 to_shapes to wide long)

@@ -1,25 +1,21 @@
 -- What a job that is read gives: lists of a drawing that passes its tests, so that 5 and 7 cannot follow. Assumes nothing.
-use mathlib.Core.Path.{◌≡◌, refl, sym, ap, ◌∙◌}
-use mathlib.Core.Logic.{⊎_elim}
-use mathlib.Core.Bool.{Bool, true, false, ◌&&◌, cond, true≢false}
-use mathlib.Core.List.{List, [], ◌∷◌, ◌++◌, map}
+use mathlib.Core.Path.{◌≡◌, refl, sym, ◌∙◌}
+use mathlib.Core.Bool.{Bool, true, false, cond}
+use mathlib.Core.List.{List, [], ◌∷◌, map}
 use Prim.Native.Nat.{ℕ, zero, suc, ◌+◌, ◌*◌, ◌/◌, ◌%◌, ◌≤◌, ◌<◌}
 use native.Mathlib.Omega.{arith}
-use lib.Dec.{leb, eqb}
+use lib.Dec.{eqb}
 use lib.ListN.{length, get_or, take, length-append, length-map}
 use lib.Seq.{ext_get_or, length-take-le, get_or-take}
 use lib.Ieee.{Float, nan}
 use borrow.Author.Tests.{le-leb, lt-leb}
-use Rattle.views.specs.View.{entry, overwrite, tabulate}
-use Rattle.views.proofs.Laws.{length-overwrite, at_overwrite, as_tabulate, same}
-use Rattle.views.proofs.Searches.{all_true}
-use Rattle.real.specs.Limit.{in_limit}
-use Rattle.refusal.specs.Order.{holds}
-use Rattle.path.specs.Shape.{count_of, total}
-use Rattle.path.specs.Limit.{anchor_in, place_in}
+use Rattle.views.specs.View.{overwrite}
+use Rattle.views.proofs.Laws.{length-overwrite, at_overwrite}
+use Rattle.path.specs.Shape.{total}
+use Rattle.path.specs.Limit.{place_in}
 use Rattle.path.proofs.Limits.{GoodBelow, anchor_in_lem, place_in_lem}
 use Rattle.path.proofs.Shapes.{Fits}
-use Rattle.call.proofs.Openings.{DrawingOpens, drawing_good, drawing_opens}
+use Rattle.call.proofs.Openings.{drawing_good, drawing_opens}
 use Rattle.corner.specs.declared.cut.CornerKind.{CornerKind}
 use Rattle.corner.specs.declared.cut.CornerKind.TheVariants.{Round, Inverted, Chamfer}
 use Rattle.cut_calls.specs.declared.kinds.Kind.TheVariants.{Known}
@@ -27,10 +23,10 @@ use Rattle.cut_calls.specs.CornerKinds.{kind_of}
 use Rattle.cache.proofs.Accepted.{Drawn}
 use Rattle.job_calls.specs.declared.call.Job.TheVariants as answer
 use Rattle.job.specs.Words.{words_of}
-use Rattle.job.specs.Grammar.{Anchor, Subpath, Job, anchors_of, Within}
-use Rattle.job.specs.Content.{shape_word, shape_words, radius_of, numbers_of, job_anchors, job_numbers, job_radii}
+use Rattle.job.specs.Grammar.{Subpath, Job, anchors_of, Within}
+use Rattle.job.specs.Content.{shape_word, shape_words, radius_of, job_anchors, job_numbers, job_radii}
 use Rattle.job.specs.Reading.{Reading, refused, accepted, reading}
-use Rattle.job_calls.specs.Call.{file_read, room_for, roomed, outcome, answer_of, shapes_left, anchors_left, radii_left, readAnswer, readShapes, readAnchors, readRadii}
+use Rattle.job_calls.specs.Call.{file_read, room_for, roomed, outcome, answer_of, shapes_left, anchors_left, radii_left, answer_read, shapes_read, anchors_read, radii_read}
 use Rattle.job.proofs.Theorems.{sound}
 use Rattle.job.proofs.Numbers.{job-numbers_in, job_radii_in, shape_count}
 use Rattle.job.proofs.Laying.{numbers-length}
@@ -107,15 +103,15 @@ pub record Given (bytes shapes : List ℕ) (anchors radii : List Float) (kind m 
   pub within : Within job
   pub read : file_read bytes ≡ accepted job
   pub kind-is : kind ≡ job.kind
-  pub words : take m (readShapes bytes shapes anchors radii) ≡ shape_words job
-  pub numbers : take (n * 6) (readAnchors bytes shapes anchors radii) ≡ job_numbers job
-  pub radii_are : take n (readRadii bytes shapes anchors radii) ≡ job_radii job
+  pub words : take m (shapes_read bytes shapes anchors radii) ≡ shape_words job
+  pub numbers : take (n * 6) (anchors_read bytes shapes anchors radii) ≡ job_numbers job
+  pub radii_are : take n (radii_read bytes shapes anchors radii) ≡ job_radii job
   pub few_words : m ≤ 32
   pub few : n ≤ 512
 
 module _ (bytes shapes : List ℕ) (anchors radii : List Float) (wide : length shapes ≡ 32) (long : length anchors ≡ 3072) (each : length radii ≡ 512) where
-  pub refuses : {n place : ℕ} → file_read bytes ≡ refused n place → readAnswer bytes shapes anchors radii ≡ answer.Refused n place
-  unfolding readAnswer outcome roomed answer_of
+  pub refuses : {n place : ℕ} → file_read bytes ≡ refused n place → answer_read bytes shapes anchors radii ≡ answer.Refused n place
+  unfolding answer_read outcome roomed answer_of
   refuses e = rw e
 
   module _ (j : Job) (w : Within j) (e : file_read bytes ≡ accepted j) where
@@ -127,12 +123,12 @@ module _ (bytes shapes : List ℕ) (anchors radii : List Float) (wide : length s
     unfolding outcome roomed
     outcome-is = rw (e, has_room)
 
-    pub accepts : readAnswer bytes shapes anchors radii ≡ answer.Read j.kind (length j.subpaths) (length (job_anchors j))
-    unfolding readAnswer answer_of
+    pub accepts : answer_read bytes shapes anchors radii ≡ answer.Read j.kind (length j.subpaths) (length (job_anchors j))
+    unfolding answer_read answer_of
     accepts = rw outcome-is
 
     given : Given bytes shapes anchors radii j.kind (length j.subpaths) (length (job_anchors j))
-    unfolding readShapes readAnchors readRadii shapes_left anchors_left radii_left
+    unfolding shapes_read anchors_read radii_read shapes_left anchors_left radii_left
     given =
         let p = w.few_subpaths in
         let q = w.few_anchors in
@@ -156,7 +152,7 @@ module _ (bytes shapes : List ℕ) (anchors radii : List Float) (wide : length s
     unfolding printed
     printed-is e = rw (le-leb (length bytes) 32768 short, e)
 
-    pub read-refused : (n place : ℕ) → readAnswer bytes shapes anchors radii ≡ answer.Refused n place → refused_text n place ≡ printed bytes
+    pub read-refused : (n place : ℕ) → answer_read bytes shapes anchors radii ≡ answer.Refused n place → refused_text n place ≡ printed bytes
     unfolding read_text
     read-refused n place a = go (file_read bytes) refl
       where
@@ -167,7 +163,7 @@ module _ (bytes shapes : List ℕ) (anchors radii : List Float) (wide : length s
         go (refused c k) e = same_text (sym (refuses e) ∙ a) ∙ printed-is e
         go (accepted j) e = absurd (differ n place _ _ _ (sym a ∙ accepts j (file_sound bytes j e) e))
 
-    pub read-given : (kind m n : ℕ) → readAnswer bytes shapes anchors radii ≡ answer.Read kind m n → Given bytes shapes anchors radii kind m n
+    pub read-given : (kind m n : ℕ) → answer_read bytes shapes anchors radii ≡ answer.Read kind m n → Given bytes shapes anchors radii kind m n
     read-given kind m n a = go (file_read bytes) refl
       where
         moved : {k x y : ℕ} → answer.Read k x y ≡ answer.Read kind m n → Given bytes shapes anchors radii k x y → Given bytes shapes anchors radii kind m n
@@ -188,12 +184,12 @@ module _ (bytes shapes : List ℕ) (anchors radii : List Float) (wide : length s
 
     -- and its line is what is printed
     pub given-text : (kind m n : ℕ) (g : Given bytes shapes anchors radii kind m n)
-        → drawing_text (take m (readShapes bytes shapes anchors radii)) (take (n * 6) (readAnchors bytes shapes anchors radii)) (take n (readRadii bytes shapes anchors radii)) kind ≡ printed bytes
+        → drawing_text (take m (shapes_read bytes shapes anchors radii)) (take (n * 6) (anchors_read bytes shapes anchors radii)) (take n (radii_read bytes shapes anchors radii)) kind ≡ printed bytes
     unfolding read_text
     given-text kind m n g = rw (g.words, g.numbers, g.radii_are, g.kind-is) (printed-is g.read)
 
     pub given-drawn : (kind m n : ℕ) (g : Given bytes shapes anchors radii kind m n)
-        → Drawn (take m (readShapes bytes shapes anchors radii)) (take (n * 6) (readAnchors bytes shapes anchors radii)) (take n (readRadii bytes shapes anchors radii)) kind
+        → Drawn (take m (shapes_read bytes shapes anchors radii)) (take (n * 6) (anchors_read bytes shapes anchors radii)) (take n (radii_read bytes shapes anchors radii)) kind
     given-drawn kind m n g = rw (g.words, g.numbers, g.radii_are, g.kind-is) (job-drawn g.job g.within)
 
 pub long_text : (bytes : List ℕ) → 32768 < length bytes → refused_text 1 8192 ≡ printed bytes

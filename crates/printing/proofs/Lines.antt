@@ -1,12 +1,12 @@
 -- What `to_svg_d` answers on a path that passes its tests, in a buffer of 65,536 bytes, is the line that is printed. Assumes nothing.
 use mathlib.Core.Path.{◌≡◌, refl, sym, ap, ◌∙◌}
-use mathlib.Core.Logic.{◌⊎◌, inl, inr, ⊎_elim}
-use mathlib.Core.List.{List, ◌++◌}
-use Prim.Native.Nat.{ℕ, ◌+◌, ◌≤◌, ◌<◌}
+use mathlib.Core.Logic.{⊎_elim}
+use mathlib.Core.List.{List}
+use Prim.Native.Nat.{ℕ, ◌≤◌, ◌<◌}
 use native.Mathlib.Nat.{zero-add}
 use native.Mathlib.Omega.{arith}
-use lib.ListN.{length, drop}
-use lib.Seq.{sets, sets-eq}
+use lib.ListN.{length}
+use lib.Seq.{sets}
 use lib.Ieee.{Float}
 use borrow.Author.Tests.{le-leb, lt-leb}
 use Rattle.views.proofs.Laws.{order}
@@ -16,7 +16,7 @@ use Rattle.path.specs.Shape.{total}
 use Rattle.call.proofs.Openings.{PathOpens}
 use Rattle.svg_calls.specs.declared.calls.Answer.TheVariants.{Refused, Accepted}
 use Rattle.svg.specs.Path.{text_of}
-use Rattle.svg_calls.specs.Call.{to_svg_danswer, to_svg_dleft, handed_answer, handed_left}
+use Rattle.svg_calls.specs.Call.{to_svg_d_answer, to_svg_d_left}
 use Rattle.svg_calls.proofs.Outcomes.{without_room, put_in_room, as_handed}
 use Rattle.printing.specs.Refused.{refused_text}
 use Rattle.printing.specs.Printed.{fitted}
@@ -40,19 +40,19 @@ module _ (words : List ℕ) (anchors : List Float) (out : List ℕ) (opens : Pat
   abbrev text : List ℕ
   text = text_of words (anchor_at anchors)
 
-  long_says : 65536 < length text → (Refused 8 0 ≡ to_svg_danswer words anchors out) × (out ≡ to_svg_dleft words anchors out)
+  long_says : 65536 < length text → (Refused 8 0 ≡ to_svg_d_answer words anchors out) × (out ≡ to_svg_d_left words anchors out)
   long_says h =
       let a = without_room text out (omega arith) in
       let b = as_handed words anchors out opens in
       (a.0 ∙ b.0, a.1 ∙ b.1)
 
-  short_says : length text ≤ 65536 → (Accepted (length text) ≡ to_svg_danswer words anchors out) × (sets out 0 text ≡ to_svg_dleft words anchors out)
+  short_says : length text ≤ 65536 → (Accepted (length text) ≡ to_svg_d_answer words anchors out) × (sets out 0 text ≡ to_svg_d_left words anchors out)
   short_says h =
       let a = put_in_room text out (stored text out (omega arith)) (omega arith) in
       let b = as_handed words anchors out opens in
       (a.0 ∙ b.0, a.1 ∙ b.1)
 
-  pub line_refused : (n place : ℕ) (m : List ℕ) (r : ℕ) → to_svg_danswer words anchors out ≡ Refused n place → Put (to_svg_dleft words anchors out) 0 (refused_text n place) m r → Put out 0 (fitted text) m r
+  pub line_refused : (n place : ℕ) (m : List ℕ) (r : ℕ) → to_svg_d_answer words anchors out ≡ Refused n place → Put (to_svg_d_left words anchors out) 0 (refused_text n place) m r → Put out 0 (fitted text) m r
   line_refused n place m r e p =
       ⊎_elim
       (λ h. absurd (differ n place (length text) (sym ((short_says h).0 ∙ e))))
@@ -62,7 +62,7 @@ module _ (words : List ℕ) (anchors : List Float) (out : List ℕ) (opens : Pat
       same_refusal : Refused 8 0 ≡ Refused n place → refused_text 8 0 ≡ refused_text n place
       same_refusal q = cc
 
-  pub line_accepted : (len : ℕ) → to_svg_danswer words anchors out ≡ Accepted len → Put out 0 (fitted text) (to_svg_dleft words anchors out) len
+  pub line_accepted : (len : ℕ) → to_svg_d_answer words anchors out ≡ Accepted len → Put out 0 (fitted text) (to_svg_d_left words anchors out) len
   line_accepted len e =
       ⊎_elim
       (λ h. let s = short_says h in record { end = same_length (s.0 ∙ e) ∙ ap length (fitted_short text h) ∙ sym (zero-add _); list = sym s.1 ∙ ap (sets out 0) (fitted_short text h) })

@@ -1,4 +1,6 @@
 // What the program `patch` prints for a job: every decision, from the job's bytes to the line's.
+#![tactic(auto)]
+
 mod drawing_line;
 mod job_line;
 mod path_line;

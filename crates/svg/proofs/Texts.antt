@@ -6,7 +6,7 @@ use Prim.Native.Nat.{ℕ, zero, suc, ◌+◌, ◌<◌}
 use native.Mathlib.Omega.{arith}
 use Rattle.path.specs.declared.anchor.Anchor.{Anchor}
 use Rattle.path.specs.Shape.{count_of, closed_of, total}
-use Rattle.svg.specs.Path.{segments, closing, subpath, commandsFrom, commands_of, text_of}
+use Rattle.svg.specs.Path.{segments, closing, subpath, commands_from, commands_of, text_of}
 
 module _ (f g : ℕ → Anchor) where
   segments_same : (k m : ℕ) → ((j : ℕ) → j < suc m → f (k + j) ≡ g (k + j)) → segments f k m ≡ segments g k m
@@ -23,8 +23,8 @@ module _ (f g : ℕ → Anchor) where
       let x : f k ≡ g k = ap f (omega arith) ∙ h 0 (omega arith) ∙ ap g (omega arith) in
       rw (segments_same k m h, h m (omega arith), x)
 
-  commands-same : (k : ℕ) (ws : List ℕ) → ((j : ℕ) → j < total ws → f (k + j) ≡ g (k + j)) → commandsFrom f k ws ≡ commandsFrom g k ws
-  unfolding commandsFrom
+  commands-same : (k : ℕ) (ws : List ℕ) → ((j : ℕ) → j < total ws → f (k + j) ≡ g (k + j)) → commands_from f k ws ≡ commands_from g k ws
+  unfolding commands_from
   commands-same k [] h = refl
   commands-same k (w ∷ ws) h =
       ap₂ ◌++◌

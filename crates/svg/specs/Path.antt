@@ -53,14 +53,14 @@ module _ (f : ℕ → Anchor) where
   subpath k (suc m) closed = move_to (f k).p ∷ segments k m ++ cond closed (closing k m) []
 
   -- ---- a path: the subpaths of the shape words, from anchor k on
-  unfoldable pub commandsFrom : ℕ → List ℕ → List (Command ℤ)
+  unfoldable pub commands_from : ℕ → List ℕ → List (Command ℤ)
   unfolding subpath
-  commandsFrom k [] = []
-  commandsFrom k (w ∷ ws) = subpath k (count_of w) (closed_of w) ++ commandsFrom (k + count_of w) ws
+  commands_from k [] = []
+  commands_from k (w ∷ ws) = subpath k (count_of w) (closed_of w) ++ commands_from (k + count_of w) ws
 
 unfoldable pub commands_of : List ℕ → (ℕ → Anchor) → List (Command ℤ)
-unfolding commandsFrom
-commands_of shapes f = commandsFrom f 0 shapes
+unfolding commands_from
+commands_of shapes f = commands_from f 0 shapes
 
 unfoldable pub text_of : List ℕ → (ℕ → Anchor) → List ℕ
 unfolding commands_of commands_text

@@ -1,4 +1,6 @@
 // SVG path data of a path, put into a lent list.
+#![tactic(auto)]
+
 mod commands;
 mod outline;
 

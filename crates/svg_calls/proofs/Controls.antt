@@ -17,42 +17,42 @@ use Rattle.decimal.specs.Text.{thousandths_text}
 use Rattle.svg_calls.specs.declared.calls.Answer.{Answer}
 use Rattle.svg_calls.specs.declared.calls.Answer.TheVariants.{Refused, Accepted}
 use Rattle.svg.specs.Path.{text_of}
-use Rattle.svg_calls.specs.Call.{text_room, to_svg_dverdict, answer, left, to_svg_danswer, to_svg_dleft}
+use Rattle.svg_calls.specs.Call.{text_room, to_svg_d_verdict, answer, left, to_svg_d_answer, to_svg_d_left}
 
 abbrev f : ℕ → Float
 f b = of_bits binary64 b
 
 abbrev Answers : List ℕ → List Float → List ℕ → Answer → List ℕ → Type 0
-Answers shapes anchors out a l = (to_svg_danswer shapes anchors out ≡ a) × (to_svg_dleft shapes anchors out ≡ l)
+Answers shapes anchors out a l = (to_svg_d_answer shapes anchors out ≡ a) × (to_svg_d_left shapes anchors out ≡ l)
 
 -- no path: no text
 nothing : Answers [] [] (7 ∷ []) (Accepted 0) (7 ∷ [])
-unfolding to_svg_danswer to_svg_dleft answer left to_svg_dverdict verdict first_failing judge holds tests text_room path_fits path_limit places first_false anchor_in all in_limit text_of in_thousandths thousandths_text of_bits eq same straight
+unfolding to_svg_d_answer to_svg_d_left answer left to_svg_d_verdict verdict first_failing judge holds tests text_room path_fits path_limit places first_false anchor_in all in_limit text_of in_thousandths thousandths_text of_bits eq same straight
 nothing = (refl, refl)
 
 -- 'M1 1', and the bytes after it stay
 with_room : Answers (1 ∷ []) (f 0x3FF0000000000000 ∷ f 0x3FF0000000000000 ∷ f 0x3FF0000000000000 ∷ f 0x3FF0000000000000 ∷ f 0x3FF0000000000000 ∷ f 0x3FF0000000000000 ∷ []) (0 ∷ 1 ∷ 2 ∷ 3 ∷ 4 ∷ 5 ∷ []) (Accepted 4) (77 ∷ 49 ∷ 32 ∷ 49 ∷ 4 ∷ 5 ∷ [])
-unfolding to_svg_danswer to_svg_dleft answer left to_svg_dverdict verdict first_failing judge holds tests text_room path_fits path_limit places first_false anchor_in all in_limit text_of in_thousandths thousandths_text of_bits eq same straight
+unfolding to_svg_d_answer to_svg_d_left answer left to_svg_d_verdict verdict first_failing judge holds tests text_room path_fits path_limit places first_false anchor_in all in_limit text_of in_thousandths thousandths_text of_bits eq same straight
 with_room = (refl, refl)
 
 -- one byte too few
 no_room : Answers (1 ∷ []) (f 0x3FF0000000000000 ∷ f 0x3FF0000000000000 ∷ f 0x3FF0000000000000 ∷ f 0x3FF0000000000000 ∷ f 0x3FF0000000000000 ∷ f 0x3FF0000000000000 ∷ []) (0 ∷ 1 ∷ 2 ∷ []) (Refused 8 0) (0 ∷ 1 ∷ 2 ∷ [])
-unfolding to_svg_danswer to_svg_dleft answer left to_svg_dverdict verdict first_failing judge holds tests text_room path_fits path_limit places first_false anchor_in all in_limit text_of in_thousandths thousandths_text of_bits eq same straight
+unfolding to_svg_d_answer to_svg_d_left answer left to_svg_d_verdict verdict first_failing judge holds tests text_room path_fits path_limit places first_false anchor_in all in_limit text_of in_thousandths thousandths_text of_bits eq same straight
 no_room = (refl, refl)
 
 -- 131,072 passes, the next number does not; 5 comes before 8
 past_limit : Answers (2 ∷ []) (f 0x4100000000000000 ∷ f 0x3FF0000000000000 ∷ f 0x4100000000000000 ∷ f 0x3FF0000000000000 ∷ f 0x4100000000000000 ∷ f 0x3FF0000000000000 ∷ f 0x3FF0000000000000 ∷ f 0x3FF0000000000000 ∷ f 0x3FF0000000000000 ∷ f 0x3FF0000000000000 ∷ f 0x3FF0000000000000 ∷ f 0x4100000000000001 ∷ []) (9 ∷ []) (Refused 5 1) (9 ∷ [])
-unfolding to_svg_danswer to_svg_dleft answer left to_svg_dverdict verdict first_failing judge holds tests text_room path_fits path_limit places first_false anchor_in all in_limit text_of in_thousandths thousandths_text of_bits eq same straight
+unfolding to_svg_d_answer to_svg_d_left answer left to_svg_d_verdict verdict first_failing judge holds tests text_room path_fits path_limit places first_false anchor_in all in_limit text_of in_thousandths thousandths_text of_bits eq same straight
 past_limit = (refl, refl)
 
 -- what is past the anchors is not read
 not-read : Answers (1 ∷ []) (f 0x3FF0000000000000 ∷ f 0x3FF0000000000000 ∷ f 0x3FF0000000000000 ∷ f 0x3FF0000000000000 ∷ f 0x3FF0000000000000 ∷ f 0x3FF0000000000000 ∷ f 0x7FF0000000000000 ∷ []) (0 ∷ 0 ∷ 0 ∷ 0 ∷ []) (Accepted 4) (77 ∷ 49 ∷ 32 ∷ 49 ∷ [])
-unfolding to_svg_danswer to_svg_dleft answer left to_svg_dverdict verdict first_failing judge holds tests text_room path_fits path_limit places first_false anchor_in all in_limit text_of in_thousandths thousandths_text of_bits eq same straight
+unfolding to_svg_d_answer to_svg_d_left answer left to_svg_d_verdict verdict first_failing judge holds tests text_room path_fits path_limit places first_false anchor_in all in_limit text_of in_thousandths thousandths_text of_bits eq same straight
 not-read = (refl, refl)
 
 -- a number missing; 7 comes before 5
 too_short : Answers (2 ∷ []) (f 0x7FF0000000000000 ∷ f 0x3FF0000000000000 ∷ f 0x7FF0000000000000 ∷ f 0x3FF0000000000000 ∷ f 0x7FF0000000000000 ∷ f 0x3FF0000000000000 ∷ f 0x3FF0000000000000 ∷ f 0x3FF0000000000000 ∷ f 0x3FF0000000000000 ∷ f 0x3FF0000000000000 ∷ f 0x3FF0000000000000 ∷ []) [] (Refused 7 0) []
-unfolding to_svg_danswer to_svg_dleft answer left to_svg_dverdict verdict first_failing judge holds tests text_room path_fits path_limit places first_false anchor_in all in_limit text_of in_thousandths thousandths_text of_bits eq same straight
+unfolding to_svg_d_answer to_svg_d_left answer left to_svg_d_verdict verdict first_failing judge holds tests text_room path_fits path_limit places first_false anchor_in all in_limit text_of in_thousandths thousandths_text of_bits eq same straight
 too_short = (refl, refl)
 
 -- of a list that has numbers for 1,025 anchors, 1,024 pass and one more does not
@@ -66,10 +66,10 @@ too_many anchors e = refl
 
 -- 33 subpaths
 too_many_subpaths : Answers (0 ∷ 0 ∷ 0 ∷ 0 ∷ 0 ∷ 0 ∷ 0 ∷ 0 ∷ 0 ∷ 0 ∷ 0 ∷ 0 ∷ 0 ∷ 0 ∷ 0 ∷ 0 ∷ 0 ∷ 0 ∷ 0 ∷ 0 ∷ 0 ∷ 0 ∷ 0 ∷ 0 ∷ 0 ∷ 0 ∷ 0 ∷ 0 ∷ 0 ∷ 0 ∷ 0 ∷ 0 ∷ 0 ∷ []) [] [] (Refused 7 0) []
-unfolding to_svg_danswer to_svg_dleft answer left to_svg_dverdict verdict first_failing judge holds tests text_room path_fits path_limit places first_false anchor_in all in_limit text_of in_thousandths thousandths_text of_bits eq same straight
+unfolding to_svg_d_answer to_svg_d_left answer left to_svg_d_verdict verdict first_failing judge holds tests text_room path_fits path_limit places first_false anchor_in all in_limit text_of in_thousandths thousandths_text of_bits eq same straight
 too_many_subpaths = (refl, refl)
 
 -- 32 subpaths
 many_subpaths : Answers (0 ∷ 0 ∷ 0 ∷ 0 ∷ 0 ∷ 0 ∷ 0 ∷ 0 ∷ 0 ∷ 0 ∷ 0 ∷ 0 ∷ 0 ∷ 0 ∷ 0 ∷ 0 ∷ 0 ∷ 0 ∷ 0 ∷ 0 ∷ 0 ∷ 0 ∷ 0 ∷ 0 ∷ 0 ∷ 0 ∷ 0 ∷ 0 ∷ 0 ∷ 0 ∷ 0 ∷ 0 ∷ []) [] [] (Accepted 0) []
-unfolding to_svg_danswer to_svg_dleft answer left to_svg_dverdict verdict first_failing judge holds tests text_room path_fits path_limit places first_false anchor_in all in_limit text_of in_thousandths thousandths_text of_bits eq same straight
+unfolding to_svg_d_answer to_svg_d_left answer left to_svg_d_verdict verdict first_failing judge holds tests text_room path_fits path_limit places first_false anchor_in all in_limit text_of in_thousandths thousandths_text of_bits eq same straight
 many_subpaths = (refl, refl)

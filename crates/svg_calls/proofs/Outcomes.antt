@@ -34,9 +34,9 @@ use Rattle.svg_calls.specs.Call.{
   text_room,
   answer,
   left,
-  to_svg_dverdict,
-  to_svg_danswer,
-  to_svg_dleft,
+  to_svg_d_verdict,
+  to_svg_d_answer,
+  to_svg_d_left,
   write_num_verdict,
   write_num_answer,
   write_num_left,
@@ -89,25 +89,25 @@ module _ (shapes : List ℕ) (anchors : List Float) (out : List ℕ) where
   text = text_of shapes (anchor_at anchors)
 
   -- the answer and the list, by the verdict
-  refuses : {n place : ℕ} → to_svg_dverdict shapes anchors out ≡ refused n place → (Refused n place ≡ to_svg_danswer shapes anchors out) × (out ≡ to_svg_dleft shapes anchors out)
-  unfolding to_svg_danswer to_svg_dleft answer left
+  refuses : {n place : ℕ} → to_svg_d_verdict shapes anchors out ≡ refused n place → (Refused n place ≡ to_svg_d_answer shapes anchors out) × (out ≡ to_svg_d_left shapes anchors out)
+  unfolding to_svg_d_answer to_svg_d_left answer left
   refuses e = (rw e, rw e)
 
-  accepts : to_svg_dverdict shapes anchors out ≡ accepted → (Accepted (length text) ≡ to_svg_danswer shapes anchors out) × (text ++ drop (length text) out ≡ to_svg_dleft shapes anchors out)
-  unfolding to_svg_danswer to_svg_dleft answer left
+  accepts : to_svg_d_verdict shapes anchors out ≡ accepted → (Accepted (length text) ≡ to_svg_d_answer shapes anchors out) × (text ++ drop (length text) out ≡ to_svg_d_left shapes anchors out)
+  unfolding to_svg_d_answer to_svg_d_left answer left
   accepts e = (rw e, rw e)
 
   -- by what the opening of the path found
-  pub not_opened : (n place : ℕ) → opened_path 1024 shapes anchors ≡ opened.Refused n place → (Refused n place ≡ to_svg_danswer shapes anchors out) × (out ≡ to_svg_dleft shapes anchors out)
-  unfolding to_svg_dverdict
+  pub not_opened : (n place : ℕ) → opened_path 1024 shapes anchors ≡ opened.Refused n place → (Refused n place ≡ to_svg_d_answer shapes anchors out) × (out ≡ to_svg_d_left shapes anchors out)
+  unfolding to_svg_d_verdict
   not_opened n place e = refuses (in_order _ _ _ _ _ _ ∙ path_refused 1024 shapes anchors n place e true _)
 
-  opened-verdict : {n : ℕ} → PathOpens 1024 shapes anchors n → to_svg_dverdict shapes anchors out ≡ room_verdict text out
-  unfolding to_svg_dverdict room_verdict judge holds
+  opened-verdict : {n : ℕ} → PathOpens 1024 shapes anchors n → to_svg_d_verdict shapes anchors out ≡ room_verdict text out
+  unfolding to_svg_d_verdict room_verdict judge holds
   opened-verdict o = in_order _ _ _ _ _ _ ∙ rw (o.lists_pass, o.places_good true)
 
-  pub as_handed : {n : ℕ} → PathOpens 1024 shapes anchors n → (handed_answer text out ≡ to_svg_danswer shapes anchors out) × (handed_left text out ≡ to_svg_dleft shapes anchors out)
-  unfolding to_svg_danswer to_svg_dleft handed_answer handed_left
+  pub as_handed : {n : ℕ} → PathOpens 1024 shapes anchors n → (handed_answer text out ≡ to_svg_d_answer shapes anchors out) × (handed_left text out ≡ to_svg_d_left shapes anchors out)
+  unfolding to_svg_d_answer to_svg_d_left handed_answer handed_left
   as_handed o = let v = opened-verdict o in (rw v, rw v)
 
   -- ---- what an accepted call leaves at the start of the list is path data, of the path's commands
@@ -117,17 +117,17 @@ module _ (shapes : List ℕ) (anchors : List Float) (out : List ℕ) where
   never passes (fails k) e = let z : ◌≡◌ {A = ℕ} 0 1 = cc in omega arith
   never (fails k) b e = let z : ◌≡◌ {A = ℕ} 0 1 = cc in omega arith
 
-  no_accept : length out < length text → to_svg_dverdict shapes anchors out ≡ accepted → ⊥
-  unfolding to_svg_dverdict text_room judge holds
+  no_accept : length out < length text → to_svg_d_verdict shapes anchors out ≡ accepted → ⊥
+  unfolding to_svg_d_verdict text_room judge holds
   no_accept r e =
       never (holds (path_fits 1024 shapes anchors) 0) (path_limit shapes anchors true) (rw (lt-leb (length text) (length out) r) at (sym (in_order _ _ _ _ _ _) ∙ e))
 
-  fits : to_svg_dverdict shapes anchors out ≡ accepted → length text ≤ length out
+  fits : to_svg_d_verdict shapes anchors out ≡ accepted → length text ≤ length out
   fits e = ⊎_elim (λ h. h) (λ r. absurd (no_accept r e)) (order (length text) (length out))
 
-  pub accepted_reads : (n : ℕ) → to_svg_danswer shapes anchors out ≡ Accepted n
-      → (n ≡ length text) × (n ≤ length out) × ReadsAs (take n (to_svg_dleft shapes anchors out)) (commands_of shapes (anchor_at anchors))
-  accepted_reads n e = go (to_svg_dverdict shapes anchors out) refl
+  pub accepted_reads : (n : ℕ) → to_svg_d_answer shapes anchors out ≡ Accepted n
+      → (n ≡ length text) × (n ≤ length out) × ReadsAs (take n (to_svg_d_left shapes anchors out)) (commands_of shapes (anchor_at anchors))
+  accepted_reads n e = go (to_svg_d_verdict shapes anchors out) refl
     where
       differ : (c k : ℕ) → Refused c k ≡ Accepted n → ⊥
       differ c k f = let z : ◌≡◌ {A = ℕ} 0 1 = cc in omega arith
@@ -135,13 +135,13 @@ module _ (shapes : List ℕ) (anchors : List Float) (out : List ℕ) where
       same : (m : ℕ) → Accepted m ≡ Accepted n → n ≡ m
       same m f = cc
 
-      go : (v : Verdict) → to_svg_dverdict shapes anchors out ≡ v → (n ≡ length text) × (n ≤ length out) × ReadsAs (take n (to_svg_dleft shapes anchors out)) (commands_of shapes (anchor_at anchors))
+      go : (v : Verdict) → to_svg_d_verdict shapes anchors out ≡ v → (n ≡ length text) × (n ≤ length out) × ReadsAs (take n (to_svg_d_left shapes anchors out)) (commands_of shapes (anchor_at anchors))
       go (refused c k) j = absurd (differ c k ((refuses j).0 ∙ e))
       go accepted j =
           let a = accepts j in
           let q : n ≡ length text = same (length text) (a.0 ∙ e) in
           let r : length text ≤ length out = fits j in
-          let t : take n (to_svg_dleft shapes anchors out) ≡ text = ap (take n) (sym a.1) ∙ take_at text (drop (length text) out) n (sym q) in
+          let t : take n (to_svg_d_left shapes anchors out) ≡ text = ap (take n) (sym a.1) ∙ take_at text (drop (length text) out) n (sym q) in
           (q, omega arith, rw t (text_reads shapes (anchor_at anchors)))
 
 -- ---- `write_num`

@@ -24,15 +24,15 @@ left accepted text out = text ++ drop (length text) out
 left (refused n place) text out = out
 
 -- ---- `to_svg_d`: at most 1,024 anchors
-unfoldable pub to_svg_dverdict : List ℕ → List Float → List ℕ → Verdict
-to_svg_dverdict shapes anchors out =
+unfoldable pub to_svg_d_verdict : List ℕ → List Float → List ℕ → Verdict
+to_svg_d_verdict shapes anchors out =
     verdict (tests (holds (path_fits 1024 shapes anchors) 0) (path_limit shapes anchors true) passes passes passes (text_room (text_of shapes (anchor_at anchors)) out))
 
-unfoldable pub to_svg_danswer : List ℕ → List Float → List ℕ → Answer
-to_svg_danswer shapes anchors out = answer (to_svg_dverdict shapes anchors out) (text_of shapes (anchor_at anchors))
+unfoldable pub to_svg_d_answer : List ℕ → List Float → List ℕ → Answer
+to_svg_d_answer shapes anchors out = answer (to_svg_d_verdict shapes anchors out) (text_of shapes (anchor_at anchors))
 
-unfoldable pub to_svg_dleft : List ℕ → List Float → List ℕ → List ℕ
-to_svg_dleft shapes anchors out = left (to_svg_dverdict shapes anchors out) (text_of shapes (anchor_at anchors)) out
+unfoldable pub to_svg_d_left : List ℕ → List Float → List ℕ → List ℕ
+to_svg_d_left shapes anchors out = left (to_svg_d_verdict shapes anchors out) (text_of shapes (anchor_at anchors)) out
 
 -- ---- `write_num`, as a call: the number is tested as a loose argument
 unfoldable pub write_num_verdict : Float → List ℕ → Verdict

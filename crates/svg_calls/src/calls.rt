@@ -4,13 +4,13 @@ ghost use Rattle.path.specs.Shape.{total};
 ghost use Rattle.path.specs.Flat.{anchor_at};
 ghost use Rattle.svg.specs.Path.{text_of};
 ghost use Rattle.svg.specs.Pieces.{Placed};
-ghost use Rattle.svg_calls.specs.Call.{to_svg_danswer, to_svg_dleft, write_num_answer, write_num_left, handed_answer, handed_left};
+ghost use Rattle.svg_calls.specs.Call.{to_svg_d_answer, to_svg_d_left, write_num_answer, write_num_left, handed_answer, handed_left};
 
 use call::Opened;
 use svg::put_path;
 
 // A refusal's number and place, or the text's length.
-#[derive(Drop)]
+#[derive(Clone, Copy)]
 pub enum Answer {
     Refused(u32, usize),
     Accepted(usize),
@@ -18,8 +18,8 @@ pub enum Answer {
 
 // The SVG path data of a path of at most 1,024 anchors.
 pub fn to_svg_d(shapes: &[u32], anchors: &[f64], out: &mut [u8]) -> Answer
-    ensures answer { result ≡ to_svg_danswer shapes.now anchors.now out.old }
-    ensures left { out.new ≡ to_svg_dleft shapes.now anchors.now out.old }
+    ensures answer { result ≡ to_svg_d_answer shapes.now anchors.now out.old }
+    ensures left { out.new ≡ to_svg_d_left shapes.now anchors.now out.old }
 {
     let opened = call::open_path(1024, shapes, anchors);
     match opened {

@@ -1,4 +1,6 @@
 // The calls that write text: the SVG path data of a path, and a number.
+#![tactic(auto)]
+
 mod calls;
 
 pub use calls::{Answer, to_svg_d, write_num};

@@ -5,11 +5,11 @@ use Rattle.decimal.proofs.Counted.{four_bytes, three_bytes, two_bytes, no_bytes}
 use Rattle.decimal.proofs.lengths.fraction_length.Statement.{statement}
 use Rattle.decimal.proofs.lengths.fraction_length.Tie as tie
 
-pub fraction-length-spec : {M : Type 1} → statement M
-fraction-length-spec =
+pub fraction_length_spec : {M : Type 1} → statement M
+fraction_length_spec =
     tie.close
     (tie.spec
-    (λ c. sym (four_bytes _ c.if1.true))
-    (λ c. sym (three_bytes _ (omega arith) c.if2.true))
-    (λ c. sym (two_bytes _ (omega arith) c.if3.true))
+    (λ c. sym (four_bytes _ c.if-t-ne0.true))
+    (λ c. sym (three_bytes _ (omega arith) c.if-t-ne0-2.true))
+    (λ c. sym (two_bytes _ (omega arith) c.if-t-ne0-3.true))
     (λ c. sym (no_bytes _ (omega arith))))

@@ -16,19 +16,19 @@ left c = left_is c.args.n c.args.s c.requires.0
 half : (c : tie.Start) → 1 * 2 ^ (c.args.s - 1) % 2 ^ 64 * 2 ≡ 2 ^ c.args.s
 half c = half_is c.args.s c.requires.1 c.requires.2
 
-returns : tie.Need-returns
+returns : tie.Need-returns-then-left-half
 returns c = let s = c.before in sym (closest_down s.args.n (2 ^ s.args.s) (omega (arith, left s, half s)))
 
-returns-2 : tie.Need-returns-2
+returns-2 : tie.Need-returns-then-left-half-2
 returns-2 c = let s = c.before.before in sym (closest_tie s.args.n (2 ^ s.args.s) (omega (arith, left s, half s)))
 
-returns-3 : tie.Need-returns-3
+returns-3 : tie.Need-returns
 returns-3 c =
     let s = c.before.before in
-    add-one (s.args.n / 2 ^ s.args.s) ∙ sym (closest_up s.args.n (2 ^ s.args.s) (omega (arith, left s, half s, c.if2.false)))
+    add-one (s.args.n / 2 ^ s.args.s) ∙ sym (closest_up s.args.n (2 ^ s.args.s) (omega (arith, left s, half s, c.if-left-half-2.false)))
 
-pub nearest-spec : {M : Type 1} → statement M
-nearest-spec =
+pub nearest_spec : {M : Type 1} → statement M
+nearest_spec =
     tie.close
     (tie.spec
     (λ c. search rules)

@@ -9,14 +9,14 @@ use Rattle.decimal.proofs.Values.{limit_no_nan, bits-sign}
 use Rattle.decimal.proofs.rounding.negative.Statement.{statement}
 use Rattle.decimal.proofs.rounding.negative.Tie as tie
 
-float-to-bits-result : tie.Need-float-to-bits-result
+float-to-bits-result : tie.Need-float_to_bits-result
 float-to-bits-result c = limit_no_nan c.args.x c.requires
 
 bits : (c : tie.Start) → of_bits binary64 (to_bits binary64 c.args.x) ≡ c.args.x
-bits c = of_bits-to_bits binary64 c.args.x (subst T (sym c.well-formed.0.1) tt)
+bits c = of_bits-to_bits binary64 c.args.x (subst T (sym c.well_formed.0.1) tt)
 
 returns : tie.Need-returns
 returns c = sym (ap sign_of (sym (bits c)) ∙ bits-sign (to_bits binary64 c.args.x) (ap in_limit (bits c) ∙ c.requires))
 
-pub negative-spec : {M : Type 1} → statement M
-negative-spec = tie.close (tie.spec float-to-bits-result returns)
+pub negative_spec : {M : Type 1} → statement M
+negative_spec = tie.close (tie.spec float-to-bits-result returns)

@@ -23,15 +23,15 @@ abbrev put-whole-below : ℕ → In 1 put-whole-kinds.ps
 put-whole-below t =
     and 1 put-whole-kinds.ps (falls 1 put-whole-kinds.ps ◌<◌ μ-put-whole t) put-whole.Pre
 
-put-whole-put-digit-requires : (t : ℕ) → put-whole-lts.Need-put-digit-requires (
+put-whole-put-digit-requires : (t : ℕ) → put-whole-lts.Need-put_digit-requires (
   put-digit-reads.Asked,
   put-digit-reads.Learnt,
   put-whole-below t,
   put-whole.Post,
 ) (put-whole-at t) put-whole.Post
-put-whole-put-digit-requires t c κs = let s = c.before.before.before in let e = whole-small s.args.n c.before.if1.true in let k : s.args.at + 1 < 2 ^ 64 = rw e at s.requires.1 in (c.before.if1.true, k)
+put-whole-put-digit-requires t c κs = let s = c.before.before.before in let e = whole-small s.args.n c.before.if-n-lt10.true in let k : s.args.at + 1 < 2 ^ 64 = rw e at s.requires.1 in (c.before.if-n-lt10.true, k)
 
-put-whole-same-length : (t : ℕ) → put-whole-lts.Need-same-length (
+put-whole-same-length : (t : ℕ) → put-whole-lts.Need-shape_of-out-then-n-lt10 (
   put-digit-reads.Asked,
   put-digit-reads.Learnt,
   put-whole-below t,
@@ -39,31 +39,31 @@ put-whole-same-length : (t : ℕ) → put-whole-lts.Need-same-length (
 ) (put-whole-at t) put-whole.Post
 put-whole-same-length t c = search rules
 
-put-whole-returns : (t : ℕ) → put-whole-lts.Need-returns (
+put-whole-returns : (t : ℕ) → put-whole-lts.Need-returns-then-n-lt10 (
   put-digit-reads.Asked,
   put-digit-reads.Learnt,
   put-whole-below t,
   put-whole.Post,
 ) (put-whole-at t) put-whole.Post
-put-whole-returns t c = rw (whole-small c.before.before.before.before.before.before.args.n c.before.before.before.before.if1.true) c.before.before.put-digit.ensures
+put-whole-returns t c = rw (whole-small c.before.before.before.before.before.before.args.n c.before.before.before.before.if-n-lt10.true) c.before.before.put_digit.ensures
 
-put-whole-put-whole-requires : (t : ℕ) → put-whole-lts.Need-put-whole-requires (
+put-whole-put-whole-requires : (t : ℕ) → put-whole-lts.Need-put_whole-to-requires (
   put-digit-reads.Asked,
   put-digit-reads.Learnt,
   put-whole-below t,
   put-whole.Post,
 ) (put-whole-at t) put-whole.Post
-put-whole-put-whole-requires t c κs = let s = c.before.before.before in (omega (arith, s.requires.0), omega (arith, s.requires.1, length_more s.args.n c.before.if1.false))
+put-whole-put-whole-requires t c κs = let s = c.before.before.before in (omega (arith, s.requires.0), omega (arith, s.requires.1, length_more s.args.n c.before.if-n-lt10.false))
 
-put-whole-put-digit-requires-2 : (t : ℕ) → put-whole-lts.Need-put-digit-requires-2 (
+put-whole-put-digit-requires-2 : (t : ℕ) → put-whole-lts.Need-put_digit-requires-2 (
   put-digit-reads.Asked,
   put-digit-reads.Learnt,
   put-whole-below t,
   put-whole.Post,
 ) (put-whole-at t) put-whole.Post
-put-whole-put-digit-requires-2 t c κs = let s = c.before.before.before.before.before.before.before in (omega arith, omega (arith, s.requires.1, c.before.before.before.put-whole.ensures.end, length_more s.args.n c.before.before.before.before.before.if1.false))
+put-whole-put-digit-requires-2 t c κs = let s = c.before.before.before.before.before.before.before in (omega arith, omega (arith, s.requires.1, c.before.before.before.put_whole-to.ensures.end, length_more s.args.n c.before.before.before.before.before.if-n-lt10.false))
 
-put-whole-same-length-2 : (t : ℕ) → put-whole-lts.Need-same-length-2 (
+put-whole-same-length-2 : (t : ℕ) → put-whole-lts.Need-shape_of-out (
   put-digit-reads.Asked,
   put-digit-reads.Learnt,
   put-whole-below t,
@@ -71,16 +71,16 @@ put-whole-same-length-2 : (t : ℕ) → put-whole-lts.Need-same-length-2 (
 ) (put-whole-at t) put-whole.Post
 put-whole-same-length-2 t c = search rules
 
-put-whole-returns-2 : (t : ℕ) → put-whole-lts.Need-returns-2 (
+put-whole-returns-2 : (t : ℕ) → put-whole-lts.Need-returns (
   put-digit-reads.Asked,
   put-digit-reads.Learnt,
   put-whole-below t,
   put-whole.Post,
 ) (put-whole-at t) put-whole.Post
-put-whole-returns-2 t c = rw (whole_more c.before.before.before.before.before.before.before.before.before.before.args.n c.before.before.before.before.before.before.before.before.if1.false) (then c.before.before.before.before.before.before.put-whole.ensures c.before.before.put-digit2.ensures)
+put-whole-returns-2 t c = rw (whole_more c.before.before.before.before.before.before.before.before.before.before.args.n c.before.before.before.before.before.before.before.before.if-n-lt10.false) (then c.before.before.before.before.before.before.put_whole-to.ensures c.before.before.put_digit-2.ensures)
 
-pub +put-whole-spec : {M : Type 1} → statement M
-+put-whole-spec = close μ-put-whole λ t. put-whole-lts.spec (
+pub +put_whole_spec : {M : Type 1} → statement M
++put_whole_spec = close μ-put-whole λ t. put-whole-lts.spec (
   put-digit-reads.Asked,
   put-digit-reads.Learnt,
   put-whole-below t,

@@ -12,31 +12,31 @@ use Rattle.decimal.proofs.Room.{float-room}
 use Rattle.decimal.proofs.writing.write_num.Statement.{statement}
 use Rattle.decimal.proofs.writing.write_num.Tie as tie
 
-small : (c : tie.After-thousandths) → c.thousandths.result ≤ 131072000
-small c = rw c.thousandths.ensures (limit_thousandths c.before.before.args.x c.before.before.requires.0)
+small : (c : tie.After-thousandths-t) → c.thousandths-t.result ≤ 131072000
+small c = rw c.thousandths-t.ensures (limit_thousandths c.before.before.args.x c.before.before.requires.0)
 
-returns : tie.Need-returns
+returns : tie.Need-returns-then-t-eq0
 returns c =
-    let t = c.before.before.before.before.before.thousandths.ensures in
-    let put : Put c.before.before.before.before.before.before.before.args.out.now c.before.before.before.before.before.before.before.args.at (float_text c.before.before.before.before.before.before.before.args.x) c.before.before.put-size.new.0 c.before.before.put-size.result =
-    rw (text-zero c.before.before.before.before.before.before.before.args.x (sym t ∙ c.before.before.before.before.if1.true) ∙ ap size_text (sym t)) c.before.before.put-size.ensures in (put, omega (arith, put.end, float-room c.before.before.before.before.before.before.before.args.x c.before.before.before.before.before.before.before.requires.0))
+    let t = c.before.before.before.before.before.thousandths-t.ensures in
+    let put : Put c.before.before.before.before.before.before.before.args.out.now c.before.before.before.before.before.before.before.args.at (float_text c.before.before.before.before.before.before.before.args.x) c.before.before.put_size.new.out c.before.before.put_size.result =
+    rw (text-zero c.before.before.before.before.before.before.before.args.x (sym t ∙ c.before.before.before.before.if-t-eq0.true) ∙ ap size_text (sym t)) c.before.before.put_size.ensures in (put, omega (arith, put.end, float-room c.before.before.before.before.before.before.before.args.x c.before.before.before.before.before.before.before.requires.0))
 
-returns-2 : tie.Need-returns-2
+returns-2 : tie.Need-returns-then-negative
 returns-2 c =
-    let t = c.before.before.before.before.before.before.before.before.before.before.before.thousandths.ensures in
-    let put : Put c.before.before.before.before.before.before.before.before.before.before.before.before.before.args.out.now c.before.before.before.before.before.before.before.before.before.before.before.before.before.args.at (float_text c.before.before.before.before.before.before.before.before.before.before.before.before.before.args.x) c.before.before.put-size2.new.0 c.before.before.put-size2.result =
-    rw (text-negative c.before.before.before.before.before.before.before.before.before.before.before.before.before.args.x (λ e. c.before.before.before.before.before.before.before.before.before.before.if1.false (t ∙ e)) (sym c.before.before.before.before.before.before.before.before.before.negative.ensures ∙ c.before.before.before.before.before.before.before.before.if2.true), ← t)
-    (then c.before.before.before.before.before.before.put.ensures c.before.before.put-size2.ensures) in
+    let t = c.before.before.before.before.before.before.before.before.before.before.before.thousandths-t.ensures in
+    let put : Put c.before.before.before.before.before.before.before.before.before.before.before.before.before.args.out.now c.before.before.before.before.before.before.before.before.before.before.before.before.before.args.at (float_text c.before.before.before.before.before.before.before.before.before.before.before.before.before.args.x) c.before.before.put_size-then-negative.new.out c.before.before.put_size-then-negative.result =
+    rw (text-negative c.before.before.before.before.before.before.before.before.before.before.before.before.before.args.x (λ e. c.before.before.before.before.before.before.before.before.before.before.if-t-eq0.false (t ∙ e)) (sym c.before.before.before.before.before.before.before.before.before.negative.ensures ∙ c.before.before.before.before.before.before.before.before.if-negative.true), ← t)
+    (then c.before.before.before.before.before.before.put-size.ensures c.before.before.put_size-then-negative.ensures) in
     (put, omega (arith, put.end, float-room c.before.before.before.before.before.before.before.before.before.before.before.before.before.args.x c.before.before.before.before.before.before.before.before.before.before.before.before.before.requires.0))
 
-returns-3 : tie.Need-returns-3
+returns-3 : tie.Need-returns
 returns-3 c =
-    let t = c.before.before.before.before.before.before.before.thousandths.ensures in
-    let put : Put c.before.before.before.before.before.before.before.before.before.args.out.now c.before.before.before.before.before.before.before.before.before.args.at (float_text c.before.before.before.before.before.before.before.before.before.args.x) c.before.before.put-size3.new.0 c.before.before.put-size3.result =
-    rw (text_positive c.before.before.before.before.before.before.before.before.before.args.x (sym c.before.before.before.before.before.negative.ensures ∙ c.before.before.before.before.if2.false) ∙ ap size_text (sym t)) c.before.before.put-size3.ensures in (put, omega (arith, put.end, float-room c.before.before.before.before.before.before.before.before.before.args.x c.before.before.before.before.before.before.before.before.before.requires.0))
+    let t = c.before.before.before.before.before.before.before.thousandths-t.ensures in
+    let put : Put c.before.before.before.before.before.before.before.before.before.args.out.now c.before.before.before.before.before.before.before.before.before.args.at (float_text c.before.before.before.before.before.before.before.before.before.args.x) c.before.before.put_size-2.new.out c.before.before.put_size-2.result =
+    rw (text_positive c.before.before.before.before.before.before.before.before.before.args.x (sym c.before.before.before.before.before.negative.ensures ∙ c.before.before.before.before.if-negative.false) ∙ ap size_text (sym t)) c.before.before.put_size-2.ensures in (put, omega (arith, put.end, float-room c.before.before.before.before.before.before.before.before.before.args.x c.before.before.before.before.before.before.before.before.before.requires.0))
 
-pub write-num-spec : {M : Type 1} → statement M
-write-num-spec =
+pub write_num_spec : {M : Type 1} → statement M
+write_num_spec =
     tie.close
     (tie.spec
     (λ c κs. search rules)
@@ -45,7 +45,7 @@ write-num-spec =
     returns
     (λ c κs. search rules)
     (λ c κs. search rules)
-    (λ c κs. omega (arith, small c.before.before.before.before.before.before.before.before, c.before.before.before.put.ensures.end))
+    (λ c κs. omega (arith, small c.before.before.before.before.before.before.before.before, c.before.before.before.put-size.ensures.end))
     (λ c. search rules)
     returns-2
     (λ c κs. omega (arith, small c.before.before.before.before))

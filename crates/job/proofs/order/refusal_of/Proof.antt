@@ -1,66 +1,66 @@
 -- `job::order::refusal_of` meets its contract: a law for each way out. Assumes nothing.
-use mathlib.Core.Path.{◌≡◌, refl, sym, ◌∙◌}
+use mathlib.Core.Path.{◌≡◌, sym, ◌∙◌}
 use mathlib.Core.Bool.{true}
 use Prim.Native.Nat.{◌<◌}
 use native.Mathlib.Omega.{arith}
-use borrow.Author.Tests.{eq-eqb, ne_eqb, not-true, not-false}
+use borrow.Author.Tests.{eq-eqb, ne_eqb}
 use Rattle.job.specs.Order.{may_follow, payloads}
 use Rattle.job.proofs.Orders.{refused_1, refused-order, refused_payload, refused_full, refused_end}
 use Rattle.job.proofs.order.refusal_of.Statement.{statement}
 use Rattle.job.proofs.order.refusal_of.Tie as tie
 
-returns : tie.Need-returns
-returns c = let s = c.before.before.args in sym (refused_1 s.seen s.kind s.payload c.if1.true)
+returns : tie.Need-returns-then-seen-eq15
+returns c = let s = c.before.before.args in sym (refused_1 s.seen s.kind s.payload c.if-seen-eq15.true)
 
-returns-2 : tie.Need-returns-2
+returns-2 : tie.Need-returns-then-not-may_follow
 returns-2 c =
     let s = c.before.before.before.before.args in
-    sym (refused-order s.seen s.kind s.payload c.before.before.if1.false (sym c.before.may-follow.ensures ∙ not-true _ c.if2.true))
+    sym (refused-order s.seen s.kind s.payload c.before.before.if-seen-eq15.false (sym c.before.may_follow.ensures ∙ c.if-not-may_follow.true))
 
 -- a word in order
-follows : (c : tie.Else2) → may_follow c.before.before.before.before.args.seen.last c.before.before.before.before.args.kind ≡ true
-follows c = sym c.before.may-follow.ensures ∙ not-false _ c.if2.false
+follows : (c : tie.Else-not-may_follow) → may_follow c.before.before.before.before.args.seen.last c.before.before.before.before.args.kind ≡ true
+follows c = sym c.before.may_follow.ensures ∙ c.if-not-may_follow.false
 
-returns-3 : tie.Need-returns-3
+returns-3 : tie.Need-returns-then-payload-payloads
 returns-3 c =
     let o = c.before.before in
     let s = o.before.before.before.before.args in
-    sym (refused_payload s.seen s.kind s.payload o.before.before.if1.false (follows o) (omega (arith, c.before.payloads.ensures)))
+    sym (refused_payload s.seen s.kind s.payload o.before.before.if-seen-eq15.false (follows o) (omega (arith, c.before.payloads.ensures)))
 
 -- and with a payload that is listed
-listed : (c : tie.Else3) → c.before.before.before.before.before.before.args.payload < payloads c.before.before.before.before.before.before.args.kind
+listed : (c : tie.Else-payload-payloads) → c.before.before.before.before.before.before.args.payload < payloads c.before.before.before.before.before.before.args.kind
 listed c = omega (arith, c.before.payloads.ensures)
 
-returns-4 : tie.Need-returns-4
+returns-4 : tie.Need-returns-then-is_full
 returns-4 c =
     let p = c.before.before.before in
     let o = p.before.before in
     let s = o.before.before.before.before.args in
-    sym (refused_full s.seen s.kind s.payload o.before.before.if1.false (follows o) (listed p) c.before.before.if4.true ∙ rw (sym c.before.is-full.ensures ∙ c.if5.true))
+    sym (refused_full s.seen s.kind s.payload o.before.before.if-seen-eq15.false (follows o) (listed p) c.before.before.if-kind-ne15.true ∙ rw (sym c.before.is_full.ensures ∙ c.if-is_full.true))
 
-returns-5 : tie.Need-returns-5
+returns-5 : tie.Need-returns-else-is_full
 returns-5 c =
     let p = c.before.before.before in
     let o = p.before.before in
     let s = o.before.before.before.before.args in
-    sym (refused_full s.seen s.kind s.payload o.before.before.if1.false (follows o) (listed p) c.before.before.if4.true ∙ rw (sym c.before.is-full.ensures ∙ c.if5.false))
+    sym (refused_full s.seen s.kind s.payload o.before.before.if-seen-eq15.false (follows o) (listed p) c.before.before.if-kind-ne15.true ∙ rw (sym c.before.is_full.ensures ∙ c.if-is_full.false))
 
-returns-6 : tie.Need-returns-6
+returns-6 : tie.Need-returns-then-seen-eq0
 returns-6 c =
     let p = c.before.before.before in
     let o = p.before.before in
     let s = o.before.before.before.before.args in
-    sym (refused_end s.seen s.kind s.payload o.before.before.if1.false (follows o) (listed p) c.before.before.if4.false ∙ rw (eq-eqb s.seen.subpaths 0 c.if6.true))
+    sym (refused_end s.seen s.kind s.payload o.before.before.if-seen-eq15.false (follows o) (listed p) c.before.before.if-kind-ne15.false ∙ rw (eq-eqb s.seen.subpaths 0 c.if-seen-eq0.true))
 
-returns-7 : tie.Need-returns-7
+returns-7 : tie.Need-returns-else-seen-eq0
 returns-7 c =
     let p = c.before.before.before in
     let o = p.before.before in
     let s = o.before.before.before.before.args in
-    sym (refused_end s.seen s.kind s.payload o.before.before.if1.false (follows o) (listed p) c.before.before.if4.false ∙ rw (ne_eqb s.seen.subpaths 0 c.if6.false))
+    sym (refused_end s.seen s.kind s.payload o.before.before.if-seen-eq15.false (follows o) (listed p) c.before.before.if-kind-ne15.false ∙ rw (ne_eqb s.seen.subpaths 0 c.if-seen-eq0.false))
 
-pub refusal-of-spec : {M : Type 1} → statement M
-refusal-of-spec =
+pub refusal_of_spec : {M : Type 1} → statement M
+refusal_of_spec =
     tie.close
     (tie.spec
     returns

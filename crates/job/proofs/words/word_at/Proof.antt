@@ -1,5 +1,4 @@
 -- `job::words::word_at` meets its contract. Assumes nothing.
-use mathlib.Core.Path.{◌≡◌}
 use native.Mathlib.Omega.{arith}
 use borrow.Author.Rules.{rules}
 use Rattle.job.specs.Words.{word_at}
@@ -9,14 +8,14 @@ use Rattle.job.proofs.words.word_at.Tie as tie
 returns : tie.Need-returns
 unfolding word_at
 returns c =
-    let d = c.wide4.ensures.0 in
-    let e = c.before.before.wide3.ensures.0 in
-    let f = c.before.before.before.before.wide2.ensures.0 in
+    let d = c.wide-4.ensures.0 in
+    let e = c.before.before.wide-3.ensures.0 in
+    let f = c.before.before.before.before.wide-2.ensures.0 in
     let g = c.before.before.before.before.before.before.wide.ensures.0 in
     rw (d, e, f, g) (omega arith)
 
-pub word-at-spec : {M : Type 1} → statement M
-word-at-spec =
+pub word_at_spec : {M : Type 1} → statement M
+word_at_spec =
     tie.close
     (tie.spec
     (λ c. search rules)

@@ -1,67 +1,44 @@
 -- `job_calls::call::read` meets its contract: each outcome answers and leaves what its law says. Assumes nothing.
-use mathlib.Core.Path.{◌≡◌, refl, sym, ◌∙◌}
-use Prim.Native.Nat.{◌/◌, ◌%◌}
-use lib.ListN.{length}
+use mathlib.Core.Path.{refl, sym, ◌∙◌}
 use borrow.Author.Rules.{rules}
-use Rattle.job.specs.declared.order.Seen.{Seen}
-use Rattle.job.specs.declared.reading.Scan.TheVariants as scan
-use Rattle.job.specs.Words.{words_of}
-use Rattle.job.specs.Reading.{scanned}
 use Rattle.job_calls.proofs.Outcomes.{length_fails, word_fails, refused-answer, refused_shapes, refused_anchors, refused_radii, facts, handed-answer, handed_shapes_lem, handed_anchors_lem, handed_radii}
 use Rattle.job_calls.proofs.call.read.Statement.{statement}
 use Rattle.job_calls.proofs.call.read.Tie as tie
 
-returns : tie.Need-returns
+returns : tie.Need-returns-then-bytes-ne0
 returns c =
-    let s = c.before.before.before.before.before.args in
-    let v = length_fails s.bytes.now s.shapes.now s.anchors.now s.radii.now c.if1.true in
+    let s = c.args in
+    let v = length_fails s.bytes.now s.shapes.now s.anchors.now s.radii.now c.if-bytes-ne0.true in
     (refused-answer _ _ _ _ _ _ v, (refused_shapes _ _ _ _ _ _ v, (refused_anchors _ _ _ _ _ _ v, refused_radii _ _ _ _ _ _ v)))
 
 -- a word is refused
-returns-2 : tie.Need-returns-2
+returns-2 : tie.Need-returns-in-Refused
 returns-2 c =
-    let call = c.before.before.before in
-    let s = call.before.before.before.before.before.before.before.before.before.args in
-    let v = word_fails s.bytes.now s.shapes.now s.anchors.now s.radii.now call.before.before.before.before.if1.false _ _ (sym call.read-words.ensures.0 ∙ c.before.result.given.1) in
+    let s = c.args in
+    let v = word_fails s.bytes.now s.shapes.now s.anchors.now s.radii.now c.if-bytes-ne0.false _ _ (sym c.in-Refused.ensures.0) in
     (refused-answer _ _ _ _ _ _ v, (refused_shapes _ _ _ _ _ _ v, (refused_anchors _ _ _ _ _ _ v, refused_radii _ _ _ _ _ _ v)))
 
--- ---- read to the end word
-module _ (c : tie.After-result2) where
-  abbrev call : tie.After-read-words
-  call = c.before.before
-
-  abbrev start : tie.Start
-  start = call.before.before.before.before.before.before.before.before.before
-
-  abbrev seen : Seen
-  seen = c.result2.given.0.0
-
-  whole : length start.args.bytes.now % 4 ≡ 0
-  whole = call.before.before.before.before.if1.left
-
-  done : scanned (words_of start.args.bytes.now) ≡ scan.Done seen
-  done = sym call.read-words.ensures.0 ∙ c.result2.given.1
-
-hand-over-requires : tie.Need-hand-over-requires
+-- read to the end word
+hand-over-requires : tie.Need-hand_over-requires
 hand-over-requires c κs =
-    let r = c.before.before.before.before.before.before.before in
-    let s = (start r).args in
-    (facts s.bytes.now s.shapes.now s.anchors.now s.radii.now (whole r) (seen r) (done r)).fair
+    let s = c.args in
+    (facts s.bytes.now s.shapes.now s.anchors.now s.radii.now c.if-bytes-ne0.false c.in-Done.seen (sym c.in-Done.ensures.0)).fair
 
-returns-3 : tie.Need-returns-3
+returns-3 : tie.Need-returns-in-Done
 returns-3 c =
-    let h = c.before.before.before.before.before.before.hand-over.ensures in
-    let r = c.before.before.before.before.before.before.before.before.before.before.before.before.before.before in
-    let s = (start r).args in
+    let h = c.hand_over.ensures in
+    let s = c.args in
     let b = s.bytes.now in
-    let l = (call r).read-words.ensures.1 in
-    let e = r.result2.given.1 in (
-      h.0 ∙ handed-answer b s.shapes.now s.anchors.now s.radii.now (whole r) (seen r) (done r),
+    let l = c.in-Done.ensures in
+    let w = c.if-bytes-ne0.false in
+    let n = c.in-Done.seen in
+    let d = sym l.0 in (
+      h.0 ∙ handed-answer b s.shapes.now s.anchors.now s.radii.now w n d,
       (
-        h.1.0 ∙ handed_shapes_lem b s.shapes.now s.anchors.now s.radii.now (whole r) (seen r) (done r) _ _ refl (l.0 (seen r) e),
+        h.1.0 ∙ handed_shapes_lem b s.shapes.now s.anchors.now s.radii.now w n d _ _ refl (l.1.0 n refl),
         (
-          h.1.1.0 ∙ handed_anchors_lem b s.shapes.now s.anchors.now s.radii.now (whole r) (seen r) (done r) _ _ refl (l.1.0 (seen r) e),
-          h.1.1.1 ∙ handed_radii b s.shapes.now s.anchors.now s.radii.now (whole r) (seen r) (done r) _ _ refl (l.1.1 (seen r) e),
+          h.1.1.0 ∙ handed_anchors_lem b s.shapes.now s.anchors.now s.radii.now w n d _ _ refl (l.1.1.0 n refl),
+          h.1.1.1 ∙ handed_radii b s.shapes.now s.anchors.now s.radii.now w n d _ _ refl (l.1.1.1 n refl),
         ),
       ),
     )

@@ -1,25 +1,22 @@
 -- `printing::path_line::put_path` meets its contract: each answer is a line. Assumes nothing.
-use mathlib.Core.Path.{◌≡◌, sym, ◌∙◌}
-use native.Mathlib.Omega.{arith}
+use mathlib.Core.Path.{sym, ◌∙◌}
 use borrow.Author.Rules.{rules}
 use Rattle.printing.proofs.Lines.{line_refused, line_accepted}
 use Rattle.printing.proofs.path_line.put_path.Statement.{statement}
 use Rattle.printing.proofs.path_line.put_path.Tie as tie
 
-returns : tie.Need-returns
+returns : tie.Need-returns-in-Refused
 returns c =
-    let s = c.before.before.before.before.before.before.before.before.before.before.before.before.before.before in
-    let t = c.before.before.before.before.before.before.before.before.before.to-svg-d in
-    line_refused s.args.words.now s.args.anchors.now s.args.out.now s.requires.0 s.requires.1 _ _ _ _ (sym t.ensures.0 ∙ c.before.before.before.before.before.answer.given.1) (rw (← t.ensures.1) c.before.before.Put-refused.ensures)
+    let t = c.to_svg_d-answer in
+    line_refused c.args.words.now c.args.anchors.now c.args.out.now c.requires.0 c.requires.1 _ _ _ _ (sym t.ensures.0 ∙ c.in-Refused.is) (rw (← t.ensures.1) c.before.before.put_refused.ensures)
 
-returns-2 : tie.Need-returns-2
+returns-2 : tie.Need-returns-in-Accepted
 returns-2 c =
-    let s = c.before.before.before.before.before.before.before.before.before.before in
-    let t = c.before.before.before.before.before.to-svg-d in
-    rw t.ensures.1 (line_accepted s.args.words.now s.args.anchors.now s.args.out.now s.requires.0 s.requires.1 _ (sym t.ensures.0 ∙ c.before.answer2.given.1))
+    let t = c.to_svg_d-answer in
+    rw t.ensures.1 (line_accepted c.args.words.now c.args.anchors.now c.args.out.now c.requires.0 c.requires.1 _ (sym t.ensures.0 ∙ c.in-Accepted.is))
 
-pub put-path-spec : {M : Type 1} → statement M
-put-path-spec =
+pub put_path_spec : {M : Type 1} → statement M
+put_path_spec =
     tie.close
     (tie.spec
     (λ c κs. tt)

@@ -16,31 +16,23 @@ room c = (whole_room 19 c.args.number (omega arith), whole_room 19 c.args.place 
 returns : tie.Need-returns
 unfolding refused_text
 returns c =
-    let p = c.before.before.before.before.before.before in
-    let w = p.before.before.before.before in
-    then (then (then w.before.before.before.before.put-bytes.ensures w.put_whole.ensures) p.put.ensures) c.before.before.put-whole2.ensures
+    then (then (then c.put_bytes-word.ensures c.put_whole-blank.ensures) c.put-to.ensures) c.put_whole.ensures
 
-put-whole-requires : tie.Need-put-whole-requires
-put-whole-requires c κs = omega (arith, c.before.before.before.put-bytes.ensures.end, room c.before.before.before.before.before.before.before)
+put-whole-requires : tie.Need-put_whole-blank-requires
+put-whole-requires c κs = omega (arith, c.put_bytes-word.ensures.end, room c.before.before.before.before.before.before.before.before)
 
-put-requires : tie.Need-put-requires
+put-requires : tie.Need-put-to-requires
 put-requires c κs =
-    let w = c.before.before.before in
-    let b = w.before.before.before.before in
-    omega (arith, w.put_whole.ensures.end, b.put-bytes.ensures.end, room b.before.before.before.before)
+    omega (arith, c.put_whole-blank.ensures.end, c.put_bytes-word.ensures.end, room c.before.before.before.before.before.before.before.before.before.before.before.before)
 
-put-whole-requires-2 : tie.Need-put-whole-requires-2
+put-whole-requires-2 : tie.Need-put_whole-requires
 put-whole-requires-2 c κs =
-    let p = c.before.before.before in
-    let w = p.before.before.before.before in
-    let b = w.before.before.before.before in
-    omega (arith, p.put.ensures.end, w.put_whole.ensures.end, b.put-bytes.ensures.end, room b.before.before.before.before)
+    omega (arith, c.put-to.ensures.end, c.put_whole-blank.ensures.end, c.put_bytes-word.ensures.end, room c.before.before.before.before.before.before.before.before.before.before.before.before.before.before.before.before)
 
-pub put-refused-at-spec : {M : Type 1} → statement M
-put-refused-at-spec =
+pub put_refused_at_spec : {M : Type 1} → statement M
+put_refused_at_spec =
     tie.close
     (tie.spec
-    (λ c. search rules)
     (λ c κs. search rules)
     put-whole-requires
     put-requires

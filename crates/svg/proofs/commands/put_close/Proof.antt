@@ -8,10 +8,10 @@ use Rattle.svg.proofs.commands.put_close.Statement.{statement}
 use Rattle.svg.proofs.commands.put_close.Tie as tie
 
 returns : tie.Need-returns
-returns c = (rw (glue_one c.before.before.before.before.before.args.at close 90 [] text_close, append-nil) c.before.before.put-letter.ensures.0, omega arith)
+returns c = (rw (glue_one c.args.at close 90 [] text_close, append-nil) c.put_letter.ensures.0, omega arith)
 
-pub put-close-spec : {M : Type 1} → statement M
-put-close-spec =
+pub put_close_spec : {M : Type 1} → statement M
+put_close_spec =
     tie.close
     (tie.spec
     (λ c κs. search rules)

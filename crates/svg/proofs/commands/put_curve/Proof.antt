@@ -9,16 +9,16 @@ use Rattle.svg.proofs.commands.put_curve.Tie as tie
 
 returns : tie.Need-returns
 returns c =
-    let s = c.before.before.before.before.before.before.before.before.before.before.before.before.before.before.before.before.before.before.before.before.before.before.before.before.before.args in (
+    let s = c.args in (
       rw (glue_one s.at (curve_to s.a s.b s.p) 67 _ (text-curve s.a s.b s.p))
-          (then c.before.before.before.before.before.before.before.before.before.before.before.before.before.before.before.before.before.before.before.before.before.before.put-letter.ensures.0
-          (then (then c.before.before.before.before.before.before.before.before.before.before.before.before.before.before.before.before.before.before.put-point.ensures.0 (then c.before.before.before.before.before.before.before.before.before.before.before.before.before.before.put.ensures c.before.before.before.before.before.before.before.before.before.before.put-point2.ensures.0))
-          (then c.before.before.before.before.before.before.put2.ensures c.before.before.put-point3.ensures.0))),
+          (then c.put_letter-to.ensures.0
+          (then (then c.put_point-first.ensures.0 (then c.put-blank.ensures c.put_point-second.ensures.0))
+          (then c.put-last.ensures c.put_point.ensures.0))),
       omega arith,
     )
 
-pub put-curve-spec : {M : Type 1} → statement M
-put-curve-spec =
+pub put_curve_spec : {M : Type 1} → statement M
+put_curve_spec =
     tie.close
     (tie.spec
     (λ c κs. search rules)

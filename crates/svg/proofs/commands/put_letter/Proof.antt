@@ -6,14 +6,14 @@ use Rattle.decimal.proofs.Puts.{then}
 use Rattle.svg.proofs.commands.put_letter.Statement.{statement}
 use Rattle.svg.proofs.commands.put_letter.Tie as tie
 
-returns : tie.Need-returns
-returns c = (rw (eq-eqb c.before.before.before.before.before.before.args.at 0 c.before.before.before.before.if1.true) c.before.before.put.ensures, omega arith)
+returns : tie.Need-returns-then-at-eq0
+returns c = (rw (eq-eqb c.args.at 0 c.if-at-eq0.true) c.put.ensures, omega arith)
 
-returns-2 : tie.Need-returns-2
-returns-2 c = (rw (ne_eqb c.before.before.before.before.before.before.before.before.before.before.args.at 0 c.before.before.before.before.before.before.before.before.if1.false) (then c.before.before.before.before.before.before.put2.ensures c.before.before.put3.ensures), omega arith)
+returns-2 : tie.Need-returns
+returns-2 c = (rw (ne_eqb c.args.at 0 c.if-at-eq0.false) (then c.put-to.ensures c.put-2.ensures), omega arith)
 
-pub put-letter-spec : {M : Type 1} → statement M
-put-letter-spec =
+pub put_letter_spec : {M : Type 1} → statement M
+put_letter_spec =
     tie.close
     (tie.spec
     (λ c κs. search rules)

@@ -9,11 +9,11 @@ use Rattle.svg.proofs.commands.put_move.Tie as tie
 
 returns : tie.Need-returns
 returns c =
-    let s = c.before.before.before.before.before.before.before.before.before.args in
-    (rw (glue_one s.at (move_to s.p) 77 _ (text_move s.p)) (then c.before.before.before.before.before.before.put-letter.ensures.0 c.before.before.put-point.ensures.0), omega arith)
+    let s = c.args in
+    (rw (glue_one s.at (move_to s.p) 77 _ (text_move s.p)) (then c.put_letter-to.ensures.0 c.put_point.ensures.0), omega arith)
 
-pub put-move-spec : {M : Type 1} → statement M
-put-move-spec =
+pub put_move_spec : {M : Type 1} → statement M
+put_move_spec =
     tie.close
     (tie.spec
     (λ c κs. search rules)

@@ -6,10 +6,10 @@ use Rattle.svg.proofs.commands.put_point.Statement.{statement}
 use Rattle.svg.proofs.commands.put_point.Tie as tie
 
 returns : tie.Need-returns
-returns c = (then c.before.before.before.before.before.before.before.before.before.before.write-num.ensures.0 (then c.before.before.before.before.before.before.put.ensures c.before.before.write-num2.ensures.0), omega arith)
+returns c = (then c.write_num-to.ensures.0 (then c.put-next.ensures c.write_num.ensures.0), omega arith)
 
-pub put-point-spec : {M : Type 1} → statement M
-put-point-spec =
+pub put_point_spec : {M : Type 1} → statement M
+put_point_spec =
     tie.close
     (tie.spec
     (λ c κs. search rules)

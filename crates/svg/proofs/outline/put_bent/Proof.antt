@@ -6,7 +6,7 @@ use Rattle.svg.proofs.outline.put_bent.Tie as tie
 
 returns : tie.Need-returns
 unfolding bent
-returns c = c.before.before.put-curve.ensures
+returns c = c.put_curve.ensures
 
-pub put-bent-spec : {M : Type 1} → statement M
-put-bent-spec = tie.close (tie.spec (λ c κs. search rules) (λ c. search rules) returns)
+pub put_bent_spec : {M : Type 1} → statement M
+put_bent_spec = tie.close (tie.spec (λ c κs. search rules) (λ c. search rules) returns)

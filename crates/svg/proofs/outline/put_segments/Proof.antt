@@ -14,47 +14,47 @@ use Rattle.svg.proofs.Paths.{segments_none, segments_more}
 use Rattle.svg.proofs.outline.put_segments.Statement.{statement}
 use Rattle.svg.proofs.outline.put_segments.Tie as tie
 
-abbrev invariant-loop : tie.invariant-loop
+abbrev invariant-loop : tie.invariant-loop-j
 invariant-loop anchors k m out₀ at to₀ j₀ out to j = (j ≤ m) × (Put out₀ at (glue at (segments (anchor_at anchors) k j)) out to) × (to ≤ at + 73 * j)
 
-abbrev decreases-loop : tie.decreases-loop
+abbrev decreases-loop : tie.decreases-loop-j
 decreases-loop anchors k m out₀ at to₀ j₀ out to j = m - j
 
-loop-holds : tie.Need-loop-init invariant-loop decreases-loop
+loop-holds : tie.Need-loop-j-init invariant-loop decreases-loop
 loop-holds c =
-    let s = c.before.before.args in
+    let s = c.args in
     (omega arith, rw (segments_none (anchor_at s.anchors.now) s.k) (no_commands s.out.now s.at), omega arith)
 
 -- the segment's two anchors
-from : (c : tie.In-loop invariant-loop decreases-loop) → Placed c.before.before.before.before.args.anchors.now (c.before.before.before.before.args.k + c.before.loop.j)
-from c = let s = c.before.before.before.before in s.requires.0 (s.args.k + c.before.loop.j) (omega arith) (omega arith)
+from : (c : tie.In-loop-j invariant-loop decreases-loop) → Placed c.args.anchors.now (c.args.k + c.loop-j.j)
+from c = let s = c.before.before.before.before in c.requires.0 (c.args.k + c.loop-j.j) (omega arith) (omega arith)
 
-to : (c : tie.In-loop invariant-loop decreases-loop) → Placed c.before.before.before.before.args.anchors.now (c.before.before.before.before.args.k + c.before.loop.j + 1)
-to c = let s = c.before.before.before.before in s.requires.0 (s.args.k + c.before.loop.j + 1) (omega arith) (omega arith)
+to : (c : tie.In-loop-j invariant-loop decreases-loop) → Placed c.args.anchors.now (c.args.k + c.loop-j.j + 1)
+to c = let s = c.before.before.before.before in c.requires.0 (c.args.k + c.loop-j.j + 1) (omega arith) (omega arith)
 
-put-segment-requires : tie.Need-put-segment-requires invariant-loop decreases-loop
+put-segment-requires : tie.Need-put_segment-to-requires invariant-loop decreases-loop
 put-segment-requires c κs =
-    (rw c.before.before.anchor-at.ensures (from c.before.before.before).within, rw c.before.anchor-at2.ensures (to c.before.before.before).within, omega arith)
+    (rw c.anchor_at-a.ensures (from c.before.before.before).within, rw c.anchor_at-b.ensures (to c.before.before.before).within, omega arith)
 
-loop-again : tie.Need-loop-preserved invariant-loop decreases-loop
+loop-again : tie.Need-loop-j-preserved invariant-loop decreases-loop
 loop-again c =
-    let s = c.before.before.before.before.before.before.before.before.before.before.args in
+    let s = c.args in
     let f = anchor_at s.anchors.now in
-    let l = c.before.before.before.before.before.before.before.loop in (
+    let l = c.loop-j in (
       omega arith,
       rw (segments_more f s.k l.j)
-          (glued (segments f s.k l.j) (_ ∷ []) l.invariant.1 (rw (c.before.before.before.before.before.anchor-at.ensures, c.before.before.before.before.anchor-at2.ensures) at c.before.before.put-segment.ensures.0)),
+          (glued (segments f s.k l.j) (_ ∷ []) l.invariant.1 (rw (c.anchor_at-a.ensures, c.anchor_at-b.ensures) at c.put_segment-to.ensures.0)),
       omega arith,
     )
 
 returns : tie.Need-returns invariant-loop decreases-loop
 returns c =
-    let l = c.before.loop in
-    let e : l.j ≡ c.before.before.before.before.args.m = omega arith in
+    let l = c.loop-j in
+    let e : l.j ≡ c.args.m = omega arith in
     (rw e at l.invariant.1, omega arith)
 
-pub put-segments-spec : {M : Type 1} → statement M
-put-segments-spec =
+pub put_segments_spec : {M : Type 1} → statement M
+put_segments_spec =
     tie.close
     (tie.spec
     invariant-loop
@@ -69,5 +69,5 @@ put-segments-spec =
     (λ c. search rules)
     (λ c. search rules)
     loop-again
-    (λ c. keeps _ _ _ _ _ c.before.loop.invariant.1)
+    (λ c. keeps _ _ _ _ _ c.loop-j.invariant.1)
     returns)

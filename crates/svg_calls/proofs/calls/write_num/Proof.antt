@@ -3,7 +3,6 @@ use mathlib.Core.Path.{◌≡◌, ◌∙◌, sym, ap}
 use mathlib.Core.Bool.{true}
 use native.Mathlib.Omega.{arith}
 use borrow.Author.Rules.{rules}
-use borrow.Author.Tests.{not-true, not-false}
 use Rattle.real.specs.Limit.{in_limit}
 use Rattle.decimal.specs.Text.{float_text}
 use Rattle.svg_calls.specs.declared.calls.Answer.TheVariants.{Accepted}
@@ -12,31 +11,28 @@ use Rattle.svg_calls.proofs.calls.write_num.Statement.{statement}
 use Rattle.svg_calls.proofs.calls.write_num.Tie as tie
 
 -- the number is within the limit
-inside : (c : tie.Else1) → in_limit c.before.before.before.args.x ≡ true
-inside c = sym c.before.in_limit_lem.ensures ∙ not-false _ c.if1.false
+inside : (c : tie.Else-not-in_limit) → in_limit c.args.x ≡ true
+inside c = sym c.in_limit.ensures ∙ c.if-not-in_limit.false
 
-returns : tie.Need-returns
-returns c = number_outside _ _ (sym c.before.in_limit_lem.ensures ∙ not-true _ c.if1.true)
+returns : tie.Need-returns-then-not-in_limit
+returns c = number_outside _ _ (sym c.in_limit.ensures ∙ c.if-not-in_limit.true)
 
-returns-2 : tie.Need-returns-2
+returns-2 : tie.Need-returns-then-out-bytes
 returns-2 c =
-    let w = c.before.before in
-    let s = w.before.before.before.before.before.args in
-    let a = without_room (float_text s.x) s.out.now (omega (arith, c.if2.true, w.write-num.ensures.0.end)) in
-    let h = number-handed _ _ (inside w.before.before) in
+    let s = c.args in
+    let a = without_room (float_text s.x) s.out.now (omega (arith, c.if-out-bytes.true, c.write_num-bytes.ensures.0.end)) in
+    let h = number-handed _ _ (inside c.before.before.before.before) in
     (a.0 ∙ h.0, a.1 ∙ h.1)
 
-returns-3 : tie.Need-returns-3
+returns-3 : tie.Need-returns
 returns-3 c =
-    let q = c.before.before in
-    let e = q.before.before in
-    let p = e.before.before.write-num.ensures.0 in
-    let a = put_in_room _ _ q.write-num2.ensures.0 (omega (arith, e.if2.false, p.end)) in
-    let h = number-handed _ _ (inside e.before.before.before.before) in
-    (ap Accepted (p.end ∙ sym q.write-num2.ensures.0.end) ∙ a.0 ∙ h.0, a.1 ∙ h.1)
+    let p = c.write_num-bytes.ensures.0 in
+    let a = put_in_room _ _ c.write_num.ensures.0 (omega (arith, c.if-out-bytes.false, p.end)) in
+    let h = number-handed _ _ (inside c.before.before.before.before.before.before.before.before) in
+    (ap Accepted (p.end ∙ sym c.write_num.ensures.0.end) ∙ a.0 ∙ h.0, a.1 ∙ h.1)
 
-pub write-num-spec : {M : Type 1} → statement M
-write-num-spec =
+pub write_num_spec : {M : Type 1} → statement M
+write_num_spec =
     tie.close
     (tie.spec
     (λ c κs. tt)
