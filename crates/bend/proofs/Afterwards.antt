@@ -1,7 +1,7 @@
 -- A path of which one or two anchors were put anew: it is the table of its anchors afterwards, and 9 asks for those that are new. Assumes nothing.
 use mathlib.Core.Path.{◌≡◌, refl, sym, ap, ◌∙◌}
-use mathlib.Core.Logic.{inl, inr, ⊎_elim}
-use mathlib.Core.Bool.{Bool, true, false, ◌&&◌, cond}
+use mathlib.Core.Logic.{inr, ⊎_elim}
+use mathlib.Core.Bool.{Bool, true, false, cond}
 use mathlib.Core.List.{List}
 use Prim.Native.Nat.{ℕ, ◌+◌, ◌*◌, ◌/◌, ◌%◌, ◌≤◌, ◌<◌}
 use native.Mathlib.Omega.{arith}
@@ -10,14 +10,14 @@ use lib.Dec.{ltb}
 use lib.Ieee.{Float, nan}
 use borrow.Author.Tests.{ltb-true, ltb-false}
 use Rattle.views.specs.View.{entry, tabulate}
-use Rattle.views.proofs.Laws.{same, order, length-tabulate, at_tabulate, as_overwrite}
+use Rattle.views.proofs.Laws.{same, length-tabulate, at_tabulate, as_overwrite}
 use Rattle.refusal.specs.Order.{passes, judge, accepted, refused}
 use Rattle.path.specs.declared.anchor.Anchor.{Anchor}
 use Rattle.path.specs.Flat.{anchor_at, numbers, anchor_numbers, put_anchor, nth, listed}
 use Rattle.path.specs.Limit.{anchor_good, anchor_in}
 use Rattle.path.proofs.Limits.{GoodBelow}
 use Rattle.path.proofs.Anchors.{anchor_good_lem}
-use Rattle.path.proofs.Places.{anchor-number, numbers_at, length-put, put_out, at_put, at_put_other}
+use Rattle.path.proofs.Places.{numbers_at, length-put, put_out, at_put, at_put_other}
 use Rattle.call.specs.Tests.{outline_in, outline_limit}
 use Rattle.call.proofs.Openings.{places_fail, places_pass}
 use Rattle.transform.proofs.Laid.{listed_table}

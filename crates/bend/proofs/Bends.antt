@@ -1,7 +1,7 @@
 -- Which anchors `bend_segment` puts anew, and that they are there. Assumes nothing.
 use mathlib.Core.Path.{◌≡◌, refl, sym}
 use mathlib.Core.Logic.{⊎_elim}
-use mathlib.Core.Bool.{Bool, true, false, ◌&&◌, ◌||◌, cond, true≢false, and_false}
+use mathlib.Core.Bool.{Bool, true, false, ◌&&◌, ◌||◌, cond, true≢false, and-false}
 use mathlib.Core.List.{List}
 use Prim.Native.Nat.{ℕ, ◌+◌, ◌≤◌, ◌<◌}
 use native.Mathlib.Omega.{arith}
@@ -11,9 +11,8 @@ use lib.Ieee.{Float}
 use borrow.Author.Tests.{ltb-true, eqb-true, lt-ltb, le-ltb, eq-eqb, ne_eqb}
 use Rattle.views.proofs.Laws.{order}
 use Rattle.geom.specs.declared.point.P.{P}
-use Rattle.path.specs.Shape.{count_of, closed_of, total, word_at, start, is_segment, next}
+use Rattle.path.specs.Shape.{count_of, closed_of, word_at, start, is_segment, next}
 use Rattle.path.specs.Flat.{anchor_at}
-use Rattle.path.proofs.Shapes.{total_in}
 use Rattle.bend.specs.Bent.{bent_out, bent_in}
 use Rattle.bend.specs.Edits.{has_bend, bend_at}
 
@@ -58,7 +57,7 @@ module _ (shapes : List ℕ) (s a : ℕ) where
 
     pub others_kept : (q : ℕ) → (q ≡ start shapes s + a → ⊥) → (q ≡ start shapes s + next n a → ⊥) → bend_at shapes anchors s a v keep q ≡ anchor_at anchors q
     unfolding bend_at
-    others_kept q ne nf = rw (ne_eqb q (start shapes s + a) ne, ne_eqb q (start shapes s + next n a) nf, and_false)
+    others_kept q ne nf = rw (ne_eqb q (start shapes s + a) ne, ne_eqb q (start shapes s + next n a) nf, and-false)
 
     pub start_anew : 2 ≤ n → bend_at shapes anchors s a v keep (start shapes s + a) ≡ bent_out v keep (anchor_at anchors (start shapes s + a))
     unfolding bend_at

@@ -1,13 +1,12 @@
 -- Which anchor `auto_smooth` puts anew, and that it is there. Assumes nothing.
-use mathlib.Core.Path.{◌≡◌, refl, sym}
-use mathlib.Core.Bool.{Bool, true, false, ◌&&◌, true≢false, and_false}
+use mathlib.Core.Path.{◌≡◌, refl}
+use mathlib.Core.Bool.{Bool, and-false}
 use mathlib.Core.List.{List}
 use Prim.Native.Nat.{ℕ, ◌+◌, ◌≤◌, ◌<◌}
 use native.Mathlib.Omega.{arith}
-use lib.Dec.{ltb}
 use lib.ListN.{length}
 use lib.Ieee.{Float}
-use borrow.Author.Tests.{ltb-true, lt-ltb, le-ltb, eq-eqb, ne_eqb}
+use borrow.Author.Tests.{lt-ltb, le-ltb, eq-eqb, ne_eqb}
 use Rattle.path.specs.declared.anchor.Anchor.{Anchor}
 use Rattle.path.specs.Shape.{count_of, closed_of, total, word_at, start}
 use Rattle.path.specs.Flat.{anchor_at}
@@ -27,7 +26,7 @@ module _ (shapes : List ℕ) (s k : ℕ) where
 
     pub others_kept : (q : ℕ) → (q ≡ start shapes s + k → ⊥) → smooth_at shapes anchors s k q ≡ anchor_at anchors q
     unfolding smooth_at
-    others_kept q ne = rw (ne_eqb q (start shapes s + k) ne, and_false)
+    others_kept q ne = rw (ne_eqb q (start shapes s + k) ne, and-false)
 
     pub put_anew : 2 ≤ count_of (word_at shapes s)
         → smooth_at shapes anchors s k (start shapes s + k) ≡ smoothed_at anchors (start shapes s) (count_of (word_at shapes s)) (closed_of (word_at shapes s)) k

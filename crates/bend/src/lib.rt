@@ -1,4 +1,6 @@
 // Edits of a path's handles in place, after 000: a segment bent, an anchor made smooth.
+#![tactic(auto)]
+
 mod bending;
 mod calls;
 mod limits;

@@ -5,7 +5,7 @@ ghost use Rattle.bend.specs.Smoothed.{point_before, point_after};
 use geom::P;
 
 // A neighbour's point, or that there is none past an open end.
-#[derive(Drop)]
+#[derive(Clone, Copy)]
 pub enum Beside {
     At(P),
     Nothing,

@@ -1,14 +1,13 @@
 -- What `bounds` answers by what its tests found. Assumes nothing.
-use mathlib.Core.Path.{◌≡◌, refl, sym, ap, ◌∙◌}
-use mathlib.Core.Bool.{Bool, true, false, ◌||◌}
+use mathlib.Core.Path.{◌≡◌, refl, sym, ◌∙◌}
+use mathlib.Core.Bool.{true, false, ◌||◌}
 use mathlib.Core.List.{List}
-use Prim.Native.Nat.{ℕ, ◌<◌}
-use native.Mathlib.Omega.{arith}
+use Prim.Native.Nat.{ℕ}
 use lib.Dec.{eqb}
 use lib.Ieee.{Float}
 use borrow.Author.Tests.{eq-eqb, ne_eqb}
 use Rattle.geom.specs.declared.bounds.Bounds.{Bounds}
-use Rattle.refusal.specs.Order.{passes, holds, judge, accepted, refused}
+use Rattle.refusal.specs.Order.{holds, judge, accepted, refused}
 use Rattle.refusal.proofs.Verdicts.{holds_true, holds_false, in_order, by_result, by_none}
 use Rattle.path.specs.Shape.{total}
 use Rattle.call.specs.declared.opening.Opened.TheVariants as answered

@@ -17,8 +17,8 @@ use Rattle.geom.specs.declared.bounds.Bounds.{Bounds}
 use Rattle.geom.specs.Box.{no_point, grown}
 use Rattle.cubic.specs.Sample.{straight, steps, step_at, sample_count}
 use Rattle.path.specs.Flat.{anchor_at, curve_of}
-use Rattle.path.specs.Shape.{count_of, closed_of, total, word_at, start, is_segment}
-use Rattle.bounds.specs.Points.{grown_by, curve_points, segmentPoints, subpathPoints, pointsFrom, box_of}
+use Rattle.path.specs.Shape.{count_of, closed_of, word_at, start, is_segment}
+use Rattle.bounds.specs.Points.{grown_by, curve_points, segment_points, subpath_points, points_from, box_of}
 
 pub grown-append : (b : Bounds) (ps qs : List P) → grown_by b (ps ++ qs) ≡ grown_by (grown_by b ps) qs
 unfolding grown_by
@@ -54,58 +54,58 @@ pub curve_done : (b r : Bounds) (c : List P) (m k : ℕ) → m ≡ steps c 16 �
 unfolding curve_points sample_count
 curve_done b r c m k e f h = rw (← e, ← f) h
 
-nothing_added : (anchors : List Float) (k : ℕ) (closed : Bool) (b : Bounds) → b ≡ grown_by b (subpathPoints anchors k 0 closed)
-unfolding subpathPoints grown_by
+nothing_added : (anchors : List Float) (k : ℕ) (closed : Bool) (b : Bounds) → b ≡ grown_by b (subpath_points anchors k 0 closed)
+unfolding subpath_points grown_by
 nothing_added anchors k closed b = refl
 
-with_first : (anchors : List Float) (k n : ℕ) (closed : Bool) → 0 < n → subpathPoints anchors k n closed ≡ segmentPoints anchors k n closed n ++ (anchor_at anchors k).p ∷ []
-unfolding subpathPoints
+with_first : (anchors : List Float) (k n : ℕ) (closed : Bool) → 0 < n → subpath_points anchors k n closed ≡ segment_points anchors k n closed n ++ (anchor_at anchors k).p ∷ []
+unfolding subpath_points
 with_first anchors k zero closed h = absurd (not-suc-le-zero h)
 with_first anchors k (suc m) closed h = refl
 
 -- ---- the segments of a subpath
 module _ (anchors : List Float) (k n : ℕ) (closed : Bool) (b : Bounds) where
-  pub segments_none : b ≡ grown_by b (segmentPoints anchors k n closed 0)
-  unfolding segmentPoints grown_by
+  pub segments_none : b ≡ grown_by b (segment_points anchors k n closed 0)
+  unfolding segment_points grown_by
   segments_none = refl
 
-  module _ (a : ℕ) (r : Bounds) (e : r ≡ grown_by b (segmentPoints anchors k n closed a)) where
-    pub segments_skip : is_segment n closed a ≡ false → r ≡ grown_by b (segmentPoints anchors k n closed (a + 1))
-    unfolding segmentPoints
+  module _ (a : ℕ) (r : Bounds) (e : r ≡ grown_by b (segment_points anchors k n closed a)) where
+    pub segments_skip : is_segment n closed a ≡ false → r ≡ grown_by b (segment_points anchors k n closed (a + 1))
+    unfolding segment_points
     segments_skip t = rw (add-one a, t, append-nil) e
 
-    pub segments_more : is_segment n closed a ≡ true → (c : List P) (s : Bounds) → c ≡ curve_of anchors k n a → s ≡ grown_by r (curve_points 16 c) → s ≡ grown_by b (segmentPoints anchors k n closed (a + 1))
-    unfolding segmentPoints
-    segments_more t c s f g = rw (add-one a, t, grown-append b (segmentPoints anchors k n closed a) (curve_points 16 (curve_of anchors k n a)), ← e, ← f) g
+    pub segments_more : is_segment n closed a ≡ true → (c : List P) (s : Bounds) → c ≡ curve_of anchors k n a → s ≡ grown_by r (curve_points 16 c) → s ≡ grown_by b (segment_points anchors k n closed (a + 1))
+    unfolding segment_points
+    segments_more t c s f g = rw (add-one a, t, grown-append b (segment_points anchors k n closed a) (curve_points 16 (curve_of anchors k n a)), ← e, ← f) g
 
   -- ---- a subpath
-  pub subpath-empty : n ≡ 0 → b ≡ grown_by b (subpathPoints anchors k n closed)
+  pub subpath-empty : n ≡ 0 → b ≡ grown_by b (subpath_points anchors k n closed)
   subpath-empty e = rw e (nothing_added anchors k closed b)
 
-  pub subpath_more : 0 < n → (r s : Bounds) (p : P) → r ≡ grown_by b (segmentPoints anchors k n closed n) → p ≡ (anchor_at anchors k).p → s ≡ grown r p → s ≡ grown_by b (subpathPoints anchors k n closed)
-  subpath_more h r s p e f g = rw (with_first anchors k n closed h, ← f) (grown_one b (segmentPoints anchors k n closed n) p r s e g)
+  pub subpath_more : 0 < n → (r s : Bounds) (p : P) → r ≡ grown_by b (segment_points anchors k n closed n) → p ≡ (anchor_at anchors k).p → s ≡ grown r p → s ≡ grown_by b (subpath_points anchors k n closed)
+  subpath_more h r s p e f g = rw (with_first anchors k n closed h, ← f) (grown_one b (segment_points anchors k n closed n) p r s e g)
 
 -- ---- a path
 next-subpath : (anchors : List Float) (k : ℕ) (shapes : List ℕ) (s : ℕ) → s < length shapes
-    → pointsFrom anchors k (take (suc s) shapes) ≡ pointsFrom anchors k (take s shapes) ++ subpathPoints anchors (k + start shapes s) (count_of (word_at shapes s)) (closed_of (word_at shapes s))
-unfolding pointsFrom
+    → points_from anchors k (take (suc s) shapes) ≡ points_from anchors k (take s shapes) ++ subpath_points anchors (k + start shapes s) (count_of (word_at shapes s)) (closed_of (word_at shapes s))
+unfolding points_from
 next-subpath anchors k [] s l = absurd (not-suc-le-zero l)
 next-subpath anchors k (w ∷ ws) zero l = rw (add-zero k) (append-nil _)
 next-subpath anchors k (w ∷ ws) (suc s) l =
-    ap (λ (z : List P). subpathPoints anchors k (count_of w) (closed_of w) ++ z) (next-subpath anchors (k + count_of w) ws s (le_of_suc-le-suc l))
-    ∙ sym (append_assoc (subpathPoints anchors k (count_of w) (closed_of w)) (pointsFrom anchors (k + count_of w) (take s ws)) (subpathPoints anchors (k + count_of w + start ws s) (count_of (word_at ws s)) (closed_of (word_at ws s))))
-    ∙ ap (λ (z : ℕ). (subpathPoints anchors k (count_of w) (closed_of w) ++ pointsFrom anchors (k + count_of w) (take s ws)) ++ subpathPoints anchors z (count_of (word_at ws s)) (closed_of (word_at ws s))) (add_assoc k (count_of w) (start ws s))
+    ap (λ (z : List P). subpath_points anchors k (count_of w) (closed_of w) ++ z) (next-subpath anchors (k + count_of w) ws s (le_of_suc-le-suc l))
+    ∙ sym (append_assoc (subpath_points anchors k (count_of w) (closed_of w)) (points_from anchors (k + count_of w) (take s ws)) (subpath_points anchors (k + count_of w + start ws s) (count_of (word_at ws s)) (closed_of (word_at ws s))))
+    ∙ ap (λ (z : ℕ). (subpath_points anchors k (count_of w) (closed_of w) ++ points_from anchors (k + count_of w) (take s ws)) ++ subpath_points anchors z (count_of (word_at ws s)) (closed_of (word_at ws s))) (add_assoc k (count_of w) (start ws s))
 
-pub path_none : (anchors : List Float) (shapes : List ℕ) → no_point ≡ grown_by no_point (pointsFrom anchors 0 (take 0 shapes))
-unfolding pointsFrom grown_by
+pub path_none : (anchors : List Float) (shapes : List ℕ) → no_point ≡ grown_by no_point (points_from anchors 0 (take 0 shapes))
+unfolding points_from grown_by
 path_none anchors shapes = refl
 
-pub path_more : (anchors : List Float) (shapes : List ℕ) (s k : ℕ) (r t : Bounds) → s < length shapes → k ≡ start shapes s → r ≡ grown_by no_point (pointsFrom anchors 0 (take s shapes))
-    → t ≡ grown_by r (subpathPoints anchors k (count_of (word_at shapes s)) (closed_of (word_at shapes s))) → t ≡ grown_by no_point (pointsFrom anchors 0 (take (s + 1) shapes))
+pub path_more : (anchors : List Float) (shapes : List ℕ) (s k : ℕ) (r t : Bounds) → s < length shapes → k ≡ start shapes s → r ≡ grown_by no_point (points_from anchors 0 (take s shapes))
+    → t ≡ grown_by r (subpath_points anchors k (count_of (word_at shapes s)) (closed_of (word_at shapes s))) → t ≡ grown_by no_point (points_from anchors 0 (take (s + 1) shapes))
 path_more anchors shapes s k r t l e f g =
     let z : 0 + start shapes s ≡ k = omega arith in
-    rw (add-one s, next-subpath anchors 0 shapes s l, grown-append no_point (pointsFrom anchors 0 (take s shapes)) (subpathPoints anchors (0 + start shapes s) (count_of (word_at shapes s)) (closed_of (word_at shapes s))), z, ← f) g
+    rw (add-one s, next-subpath anchors 0 shapes s l, grown-append no_point (points_from anchors 0 (take s shapes)) (subpath_points anchors (0 + start shapes s) (count_of (word_at shapes s)) (closed_of (word_at shapes s))), z, ← f) g
 
-pub path_done : (anchors : List Float) (shapes : List ℕ) (s : ℕ) (r : Bounds) → length shapes ≤ s → r ≡ grown_by no_point (pointsFrom anchors 0 (take s shapes)) → r ≡ box_of shapes anchors
+pub path_done : (anchors : List Float) (shapes : List ℕ) (s : ℕ) (r : Bounds) → length shapes ≤ s → r ≡ grown_by no_point (points_from anchors 0 (take s shapes)) → r ≡ box_of shapes anchors
 unfolding box_of
-path_done anchors shapes s r l e = e ∙ ap (λ (z : List ℕ). grown_by no_point (pointsFrom anchors 0 z)) (take_all s shapes l)
+path_done anchors shapes s r l e = e ∙ ap (λ (z : List ℕ). grown_by no_point (points_from anchors 0 z)) (take_all s shapes l)

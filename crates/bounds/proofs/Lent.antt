@@ -1,13 +1,13 @@
--- What a walk by hand cites of a `Bounds` that lies in a local and is lent by `&mut` to `add`.
+-- What a walk by hand cites of a `Bounds` that lies in a local and is lent by `&mut` to `add`. Rattle makes the two walks of `growing` by itself now.
 --     lies_in, lies_out    a box in a local is what can be lent, and back
---     unit-typed           of the value that `add` returns
---     calls-add            the call `add(&mut b, p)` as one step: the local's box h becomes grownOf h p. Inside it a lifetime is made, the local is lent for it, `add` is called, the lifetime is ended, and the local is back at the last value that `add`'s contract says
--- Of the structs only the laws of the modules that `rattle check` makes are used, and no field is named. Assumes `Logic`, and that the table's entry meets `add`'s contract.
+--     unit_typed           of the value that `add` returns
+--     calls_add            the call `add(&mut b, p)` as one step: the local's box h becomes grown_of h p. Inside it a lifetime is made, the local is lent for it, `add` is called, the lifetime is ended, and the local is back at the last value that `add`'s contract says
+-- Of the structs only the laws of the modules that `rt check` makes are used, and no field is named. Assumes `Logic`, and that the table's entry meets `add`'s contract.
 use mathlib.Core.Path.{◌≡◌, refl, sym, ap, subst}
 use Prim.Native.Nat.{ℕ}
 use mathlib.Core.List.{[], ◌∷◌, List}
 use seplogic.Ra.Ura.{Ura}
-use seplogic.Ra.TreeShare.{full_share}
+use base.Fraction.{full_share}
 use lib.Dec.{T as Holds}
 use mir.Syntax.{Place, Opd as Operand, Body as Code, named, ty_unit, seq, call}
 use mir.Val.{Val, vunit, vptr, has_ty, WT}
@@ -35,7 +35,7 @@ use denote.Triple.Statement.{Contract, Triple}
 use denote.Triple.Call.{calls_at}
 use denote.Triple.Clauses.{ensured, lasts}
 use denote.Triple.Spec.{triple_of}
-use Rattle.geom.specs.Box.{grown as grownOf}
+use Rattle.geom.specs.Box.{grown as grown_of}
 use Rattle.geom.specs.declared.point.P.{P}
 use Rattle.geom.specs.declared.bounds.Bounds.{Bounds}
 use Rattle.geom.specs.contracts.point.P as S
@@ -97,14 +97,14 @@ module _ {M : Type 1} {𝓤 : Ura M} (𝓛 : Logic 𝓤) (at_mem : Memory → SP
         nothing ! $ owned ! S.the_row (Is S.the_row) (LL.makes S.the_type S'.the_plain 𝓛) p _ gp $ fjoin ! $ move ! (2 ∷ 0 ∷ []) $ fjoin ! $ move ! (1 ∷ 0 ∷ []) $ join ! $ frame ! $ done !
 
     -- what the call gives: the token, and the reference's last value
-    gives : (u : Val) → ent 𝓤 (Add.post to-add u) (H.⇛ (guard 𝓤 (u ≡ vunit) (sep 𝓤 (A.lft (α ∷ []) full_share) (A.res γ ((T.the_row).coded.code (grownOf h p))))))
+    gives : (u : Val) → ent 𝓤 (Add.post to-add u) (H.⇛ (guard 𝓤 (u ≡ vunit) (sep 𝓤 (A.lft (α ∷ []) full_share) (A.res γ ((T.the_row).coded.code (grown_of h p))))))
     gives u =
         qed 𝓛 (raw (Add.post to-add u) ∷ []) ∵ updating ! $
-        use1 𝓛 (later (some (λ (r : Unit {0}). ((‵ (flft (α ∷ []) full_share) ⊛ ‵ ftrue) ⊛ ‵ (Nothing.own r (u ∷ []))) ⊛ raw (ensured 𝓛 add.ended (add.clauses 𝓛 at_mem run) (α ∷ [], tt) (lent, (p, tt)) tt r)))) (id⊢ 𝓤 _) $ await ! tt $ pick ! (λ r.
-        split ! $ move ! (1 ∷ []) $ use1 𝓛 (some (λ (zs : Bounds × (Unit {0} × Unit {0})). ‵ (lasts add.ended (α ∷ [], tt) (lent, (p, tt)) zs) ⊛ raw (fact 𝓤 (zs.0 ≡ grownOf h p)))) (id⊢ 𝓤 _) $ pick ! (λ zs.
-        split ! $ move ! (1 ∷ []) $ heard ! (zs.0 ≡ grownOf h p) (λ e. fsplit ! $ rewrite ! 0 (λ (z : Bounds). ‵ (fres γ ((T.the_row).coded.code z))) e refl $
-        -- [the last value; …; the token and the result]
-        move ! (2 ∷ []) $ split ! $ move ! (1 ∷ []) $ feq_l ! (λ w. at_once ! $ check ! (ap only w) $ split ! $ keep ! (0 ∷ 2 ∷ []) $ done !))))
+        use1 𝓛 (later (some (λ (r : Unit {0}). ((‵ (flft (α ∷ []) full_share) ⊛ ‵ ftrue) ⊛ ‵ (Nothing.own_val r (u ∷ []))) ⊛ raw (ensured 𝓛 add.ended (add.clauses 𝓛 at_mem run) (α ∷ [], tt) (lent, (p, tt)) tt r)))) (id⊢ 𝓤 _) $ await ! tt $ pick ! (λ r.
+        split ! $ move ! (1 ∷ []) $ use1 𝓛 (some (λ (zs : Bounds × (Unit {0} × Unit {0})). ‵ (lasts add.ended (α ∷ [], tt) (lent, (p, tt)) zs) ⊛ raw (fact 𝓤 (zs.0 ≡ grown_of h p)))) (id⊢ 𝓤 _) $ pick ! (λ zs.
+        split ! $ move ! (1 ∷ []) $ heard ! (zs.0 ≡ grown_of h p) (λ e. fsplit ! $ fsplit ! $ rewrite ! 0 (λ (z : Bounds). ‵ (fres γ ((T.the_row).coded.code z))) e refl $
+        -- [the last value; the borrow, closed; …; the token and the result]
+        move ! (3 ∷ []) $ split ! $ move ! (1 ∷ []) $ feq_l ! (λ w. at_once ! $ check ! (ap only w) $ split ! $ keep ! (0 ∷ 2 ∷ []) $ done !))))
 
 module _ {M : Type 1} {𝓤 : Ura M} {𝓛 : Logic 𝓤} {K : Type 0} {Γ : List (Item 𝓤)} {E : Env 𝓤 𝓛.H} {C : Calls 𝓤 𝓛.H} {Λ : Loops 𝓤 𝓛.H} {q : Post 𝓤 𝓛.H} {d : Place} {rest : Code} {xs : List Operand} where
   -- the operands are read with what `add` asks and the lender's part at the head of the context, where the box was
@@ -112,7 +112,7 @@ module _ {M : Type 1} {𝓤 : Ura M} {𝓛 : Logic 𝓤} {K : Type 0} {Γ : List
 
   pub calls_add : K → FmC 𝓤 H 𝓛.laws C → (at_mem : Memory → SProp 𝓤) (run : Routine → Fun 𝓤) → Triple 𝓤 (C #add) (Add 𝓛 at_mem run) → (h : Bounds) (p : P) (v : Val) (l : ℕ) → Is S.the_row p (v ∷ [])
       → ((α : ℕ) (γ : GName) → Opds K 𝓛 (raw ((Add 𝓛 at_mem run).pre (to-add 𝓛 at_mem run h p v l α γ)) ∷ ‵ (flent (α ∷ []) (Body (mem T.the_row) l 0 γ)) ∷ Γ) E xs (vptr l 0 ∷ v ∷ []))
-      → ((u : Val) → u ≡ vunit → Seq K 𝓛 (‵ (Lies (grownOf h p) l) ∷ Γ) (lands C Λ E d u rest q))
+      → ((u : Val) → u ≡ vunit → Seq K 𝓛 (‵ (Lies (grown_of h p) l) ∷ Γ) (lands C Λ E d u rest q))
       → Seq K 𝓛 (‵ (Lies h l) ∷ Γ) (runs C Λ E (seq (call #add xs d) rest) q)
   calls_add t fm at_mem run known h p v l gp os k =
       lft_new t tt (λ α. move t (1 ∷ []) $
@@ -120,6 +120,6 @@ module _ {M : Type 1} {𝓤 : Ura M} {𝓛 : Logic 𝓤} {K : Type 0} {Γ : List
       -- [the reference; the lender's part; the token; …]
       move t (2 ∷ 0 ∷ []) $ use2 𝓛 (raw ((Add 𝓛 at_mem run).pre (to-add 𝓛 at_mem run h p v l α γ))) (goes_add 𝓛 at_mem run h p v l α γ gp) $
       calls_at t fm (Add 𝓛 at_mem run) known (to-add 𝓛 at_mem run h p v l α γ) (os α γ) (λ u.
-      use1 𝓛 (later (given (u ≡ vunit) (‵ (flft (α ∷ []) full_share) ⊛ ‵ (fres γ ((T.the_row).coded.code (grownOf h p)))))) (gives 𝓛 at_mem run h p v l α γ u) $ await t tt $ learn t (λ w. split t $
+      use1 𝓛 (later (given (u ≡ vunit) (‵ (flft (α ∷ []) full_share) ⊛ ‵ (fres γ ((T.the_row).coded.code (grown_of h p)))))) (gives 𝓛 at_mem run h p v l α γ u) $ await t tt $ learn t (λ w. split t $
       -- the lifetime is ended, and the local is back
-      lft_end t tt $ move t (0 ∷ 2 ∷ 1 ∷ []) $ use3 𝓛 (later (‵ (Lies (grownOf h p) l))) (ref_back 𝓛 T.the_row (α ∷ []) γ (grownOf h p) l 0) $ await t tt $ k u w))))
+      lft_end t tt $ move t (0 ∷ 2 ∷ 1 ∷ []) $ use3 𝓛 (later (‵ (Lies (grown_of h p) l))) (ref_back 𝓛 T.the_row (α ∷ []) γ (grown_of h p) l 0) $ await t tt $ k u w))))

@@ -1,6 +1,6 @@
 -- Every point that was added lies within the box, for any list of points without a NaN. Assumes nothing.
-use mathlib.Core.Path.{◌≡◌, refl, sym}
-use mathlib.Core.Bool.{Bool, true, false, cond, true≢false}
+use mathlib.Core.Path.{◌≡◌, refl}
+use mathlib.Core.Bool.{Bool, true, false, cond}
 use mathlib.Core.List.{List, [], ◌∷◌}
 use Prim.Native.Nat.{ℕ, zero, suc, ◌<◌}
 use native.Mathlib.Nat.{le_of_suc-le-suc, not-suc-le-zero, zero-lt-suc}
@@ -12,7 +12,7 @@ use Rattle.geom.specs.declared.point.P.{P}
 use Rattle.geom.specs.declared.bounds.Bounds.{Bounds}
 use Rattle.geom.specs.Box.{no_point, grown}
 use Rattle.geom.specs.Flat.{pt}
-use Rattle.bounds.specs.Points.{grown_by, pointsFrom, box_of}
+use Rattle.bounds.specs.Points.{grown_by, points_from, box_of}
 use Rattle.real.proofs.Orders.{not_below, le_trans, le-number, number-le, le_self, lt-is-le}
 
 -- ---- the stand-ins
@@ -81,7 +81,7 @@ all-inside b (p ∷ ps) n zero l = all_kept (grown b p) ps p (λ j m. n (suc j) 
 all-inside b (p ∷ ps) n (suc i) l = all-inside (grown b p) ps (λ j m. n (suc j) (omega arith)) i (le_of_suc-le-suc l)
 
 -- the points of `bounds` lie in its box
-pub points_inside : (shapes : List ℕ) (anchors : List Float) → let ps = pointsFrom anchors 0 shapes in
+pub points_inside : (shapes : List ℕ) (anchors : List Float) → let ps = points_from anchors 0 shapes in
     ((i : ℕ) → i < length ps → Number (pt ps i)) → (i : ℕ) → i < length ps → Inside (box_of shapes anchors) (pt ps i)
 unfolding box_of
-points_inside shapes anchors n i l = all-inside no_point (pointsFrom anchors 0 shapes) n i l
+points_inside shapes anchors n i l = all-inside no_point (points_from anchors 0 shapes) n i l

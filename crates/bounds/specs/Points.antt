@@ -19,19 +19,19 @@ curve_points n c = tabulate (sample_count c n) (step_at c (steps c n))
 
 module _ (anchors : List Float) where
   -- the segments that start at the first m of a subpath's n anchors, the first of which is at place k
-  unfoldable pub segmentPoints : ℕ → ℕ → Bool → ℕ → List P
-  segmentPoints k n closed zero = []
-  segmentPoints k n closed (suc a) = segmentPoints k n closed a ++ cond (is_segment n closed a) (curve_points 16 (curve_of anchors k n a)) []
+  unfoldable pub segment_points : ℕ → ℕ → Bool → ℕ → List P
+  segment_points k n closed zero = []
+  segment_points k n closed (suc a) = segment_points k n closed a ++ cond (is_segment n closed a) (curve_points 16 (curve_of anchors k n a)) []
 
   -- then its first anchor
-  unfoldable pub subpathPoints : ℕ → ℕ → Bool → List P
-  subpathPoints k zero closed = []
-  subpathPoints k (suc m) closed = segmentPoints k (suc m) closed (suc m) ++ (anchor_at anchors k).p ∷ []
+  unfoldable pub subpath_points : ℕ → ℕ → Bool → List P
+  subpath_points k zero closed = []
+  subpath_points k (suc m) closed = segment_points k (suc m) closed (suc m) ++ (anchor_at anchors k).p ∷ []
 
   -- the subpaths of the shape words, from place k on
-  unfoldable pub pointsFrom : ℕ → List ℕ → List P
-  pointsFrom k [] = []
-  pointsFrom k (w ∷ ws) = subpathPoints k (count_of w) (closed_of w) ++ pointsFrom (k + count_of w) ws
+  unfoldable pub points_from : ℕ → List ℕ → List P
+  points_from k [] = []
+  points_from k (w ∷ ws) = subpath_points k (count_of w) (closed_of w) ++ points_from (k + count_of w) ws
 
 unfoldable pub box_of : List ℕ → List Float → Bounds
-box_of shapes anchors = grown_by no_point (pointsFrom anchors 0 shapes)
+box_of shapes anchors = grown_by no_point (points_from anchors 0 shapes)

@@ -1,7 +1,7 @@
 // `bounds`: the box around points of a path, 17 of each curve.
 ghost use Rattle.std.specs.Prelude.{◌≡◌, ◌+◌, ◌*◌, ◌≤◌, length};
 ghost use Rattle.path.specs.Shape.{total};
-ghost use Rattle.bounds.specs.Points.{grown_by, curve_points, subpathPoints, segmentPoints, box_of};
+ghost use Rattle.bounds.specs.Points.{grown_by, curve_points, subpath_points, segment_points, box_of};
 ghost use Rattle.bounds.specs.Calls.{box_in, bounds_answer};
 
 use crate::growing::step;
@@ -9,7 +9,7 @@ use call::Opened;
 use geom::{Bounds, P};
 
 // A refusal's number and place, the empty box, or a box's least corner and its greatest.
-#[derive(Drop)]
+#[derive(Clone, Copy)]
 pub enum Extent {
     Refused(u32, usize),
     Empty,
@@ -31,7 +31,7 @@ fn add_curve(b: Bounds, c: [P; 4]) -> Bounds
 // The box with the segments of a subpath of n anchors, the first of which is at place k.
 fn add_segments(b: Bounds, anchors: &[f64], k: usize, n: usize, closed: bool) -> Bounds
     requires { (k + n ≤ 1024) × ((k + n) * 6 ≤ length anchors.now) }
-    ensures { result ≡ grown_by b (segmentPoints anchors.now k n closed n) }
+    ensures { result ≡ grown_by b (segment_points anchors.now k n closed n) }
 {
     let mut r = b;
     for a in 0..n {
@@ -46,7 +46,7 @@ fn add_segments(b: Bounds, anchors: &[f64], k: usize, n: usize, closed: bool) ->
 // And with its first anchor.
 fn add_subpath(b: Bounds, anchors: &[f64], k: usize, n: usize, closed: bool) -> Bounds
     requires { (k + n ≤ 1024) × ((k + n) * 6 ≤ length anchors.now) }
-    ensures { result ≡ grown_by b (subpathPoints anchors.now k n closed) }
+    ensures { result ≡ grown_by b (subpath_points anchors.now k n closed) }
 {
     if n == 0 {
         return b;

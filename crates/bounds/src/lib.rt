@@ -1,4 +1,6 @@
 // The box around a path, after 000's `bounds`.
+#![tactic(auto)]
+
 mod boxes;
 mod growing;
 

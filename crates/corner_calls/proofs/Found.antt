@@ -1,24 +1,24 @@
 -- One place more is searched: where it has no corner the lists stay as they are, else its place and numbers are put after the others'. Assumes nothing.
 use mathlib.Core.Path.{◌≡◌, refl, sym, ap, ◌∙◌}
 use mathlib.Core.Logic.{inl, ⊎_elim}
-use mathlib.Core.Bool.{Bool, true, false}
+use mathlib.Core.Bool.{true, false}
 use mathlib.Core.List.{List, [], ◌∷◌, ◌++◌}
 use Prim.Native.Nat.{ℕ, zero, suc, ◌+◌, ◌-◌, ◌*◌, ◌/◌, ◌%◌, ◌≤◌, ◌<◌}
 use native.Mathlib.Nat.{not-suc-le-zero, add-sub_cancel_left}
 use native.Mathlib.Omega.{arith}
-use lib.ListN.{length, get_or, set, take}
+use lib.ListN.{length, get_or, set}
 use lib.Seq.{length-sets}
 use lib.Ieee.{Float, nan}
 use borrow.Author.Tests.{lt-ltb, le-ltb}
 use Rattle.views.specs.View.{entry}
 use Rattle.views.proofs.Laws.{order, fill_more}
 use Rattle.views.proofs.Runs.{get_d_sets_out, get_d_sets_in}
-use Rattle.path.specs.Shape.{count_of, total, word_at, start, sub_of}
+use Rattle.path.specs.Shape.{count_of, word_at, start, sub_of}
 use Rattle.corner.specs.declared.corner.Corner.{Corner}
 use Rattle.cut.specs.Places.{corner_at}
 use Rattle.cut_calls.specs.PlainCut.{sub_at}
 use Rattle.corner_calls.specs.Corners.{plain_view, path_corner, chosen, found_below, corner_numbers, numbers_of, put_corner, Holds}
-use Rattle.corner_calls.proofs.Chosen.{length_one, before_one, at_one, chosen_none, chosen_more, chosen-same, chosen_most}
+use Rattle.corner_calls.proofs.Chosen.{length_one, before_one, at_one, chosen_more, chosen-same, chosen_most}
 
 -- ---- place start + i of a path is index i of its subpath
 sub_at_lem : (shapes : List ℕ) (s i : ℕ) → s < length shapes → i < count_of (word_at shapes s) → sub_of shapes (start shapes s + i) ≡ s

@@ -1,9 +1,8 @@
 -- What `path_corners` answers and leaves by what its tests found. Assumes nothing.
-use mathlib.Core.Path.{◌≡◌, refl, sym, ap, ◌∙◌}
-use mathlib.Core.Bool.{Bool, true, false}
+use mathlib.Core.Path.{◌≡◌, sym, ap, ◌∙◌}
+use mathlib.Core.Bool.{true, false}
 use mathlib.Core.List.{List}
 use Prim.Native.Nat.{ℕ, ◌*◌, ◌≤◌, ◌<◌}
-use native.Mathlib.Omega.{arith}
 use lib.Dec.{leb}
 use lib.ListN.{length, get_or}
 use lib.Ieee.{Float}
@@ -27,14 +26,14 @@ use Rattle.corner_calls.specs.Calls.{
   corners_in,
   corners_room,
   corners_answer,
-  pathCornersVerdict,
-  pathCornersAnswer,
-  pathCornersPlaces,
-  pathCornersNumbers,
-  foundVerdict,
-  foundAnswer,
-  foundPlaces,
-  foundNumbers,
+  path_corners_verdict,
+  path_corners_answer,
+  path_corners_places,
+  path_corners_numbers,
+  found_verdict,
+  found_answer,
+  places_held,
+  found_numbers,
 }
 
 -- ---- what a verdict answers
@@ -69,34 +68,34 @@ module _ (corner : ℕ → Corner) (k : ℕ) (at : List ℕ) (rows : List Float)
   unfolding corners_in
   in-scratch = sym (all_cong _ _ (n * 9) (λ j l. ap in_limit (h.number j l)) ∙ ap (λ z. all (λ j. in_limit (numbers_of corner ps j)) (z * 9)) h.count)
 
-  refuses : {m p : ℕ} → foundVerdict corner ps places numbers ≡ refused m p
-      → (Refused m p ≡ foundAnswer corner (found_below corner k) places numbers)
-      × ((places ≡ foundPlaces corner (found_below corner k) places numbers) × (numbers ≡ foundNumbers corner (found_below corner k) places numbers))
-  unfolding foundAnswer foundPlaces foundNumbers
+  refuses : {m p : ℕ} → found_verdict corner ps places numbers ≡ refused m p
+      → (Refused m p ≡ found_answer corner (found_below corner k) places numbers)
+      × ((places ≡ places_held corner (found_below corner k) places numbers) × (numbers ≡ found_numbers corner (found_below corner k) places numbers))
+  unfolding found_answer places_held found_numbers
   refuses e = (answer-refused _ e, (list_kept _ _ _ e, list_kept _ _ _ e))
 
   pub beyond_limit : all (λ j. in_limit (entry rows j)) (n * 9) ≡ false
-      → (Refused 9 0 ≡ foundAnswer corner (found_below corner k) places numbers)
-      × ((places ≡ foundPlaces corner (found_below corner k) places numbers) × (numbers ≡ foundNumbers corner (found_below corner k) places numbers))
-  unfolding foundVerdict judge holds
+      → (Refused 9 0 ≡ found_answer corner (found_below corner k) places numbers)
+      × ((places ≡ places_held corner (found_below corner k) places numbers) × (numbers ≡ found_numbers corner (found_below corner k) places numbers))
+  unfolding found_verdict judge holds
   beyond_limit e = refuses (rw (in-scratch ∙ e))
 
   module _ (good : all (λ j. in_limit (entry rows j)) (n * 9) ≡ true) where
     pub short-of-room : corners_room n places numbers ≡ false
-        → (Refused 8 0 ≡ foundAnswer corner (found_below corner k) places numbers)
-        × ((places ≡ foundPlaces corner (found_below corner k) places numbers) × (numbers ≡ foundNumbers corner (found_below corner k) places numbers))
-    unfolding foundVerdict judge holds
+        → (Refused 8 0 ≡ found_answer corner (found_below corner k) places numbers)
+        × ((places ≡ places_held corner (found_below corner k) places numbers) × (numbers ≡ found_numbers corner (found_below corner k) places numbers))
+    unfolding found_verdict judge holds
     short-of-room e = refuses (rw (in-scratch ∙ good, ← h.count, e))
 
-    accepts : n ≤ length places → n * 9 ≤ length numbers → foundVerdict corner ps places numbers ≡ accepted
-    unfolding foundVerdict judge holds
+    accepts : n ≤ length places → n * 9 ≤ length numbers → found_verdict corner ps places numbers ≡ accepted
+    unfolding found_verdict judge holds
     accepts l m = rw (in-scratch ∙ good, ← h.count, room n places numbers l m)
 
     pub copied : n ≤ length places → n * 9 ≤ length numbers
-        → (Accepted n ≡ foundAnswer corner (found_below corner k) places numbers)
-        × ((overwrite n (λ i. get_or at i 0) places ≡ foundPlaces corner (found_below corner k) places numbers)
-        × (overwrite (n * 9) (entry rows) numbers ≡ foundNumbers corner (found_below corner k) places numbers))
-    unfolding foundAnswer foundPlaces foundNumbers
+        → (Accepted n ≡ found_answer corner (found_below corner k) places numbers)
+        × ((overwrite n (λ i. get_or at i 0) places ≡ places_held corner (found_below corner k) places numbers)
+        × (overwrite (n * 9) (entry rows) numbers ≡ found_numbers corner (found_below corner k) places numbers))
+    unfolding found_answer places_held found_numbers
     copied l m =
         let v = accepts l m in (
           ap Accepted h.count ∙ answer_accepted _ v,
@@ -108,23 +107,23 @@ module _ (corner : ℕ → Corner) (k : ℕ) (at : List ℕ) (rows : List Float)
 
 -- ---- the call: by what the opening of the path found
 module _ (shapes : List ℕ) (anchors : List Float) (places : List ℕ) (numbers : List Float) where
-  refused_there : (n k : ℕ) → opened_path 512 shapes anchors ≡ opened.Refused n k → pathCornersVerdict shapes anchors places numbers ≡ refused n k
-  unfolding pathCornersVerdict
+  refused_there : (n k : ℕ) → opened_path 512 shapes anchors ≡ opened.Refused n k → path_corners_verdict shapes anchors places numbers ≡ refused n k
+  unfolding path_corners_verdict
   refused_there n k e = in_order _ _ _ _ _ _ ∙ path_refused 512 shapes anchors n k e true _
 
-  opened_there : {n : ℕ} → PathOpens 512 shapes anchors n → pathCornersVerdict shapes anchors places numbers ≡ foundVerdict (path_corner shapes anchors) (corner_places shapes anchors) places numbers
-  unfolding pathCornersVerdict foundVerdict judge holds
+  opened_there : {n : ℕ} → PathOpens 512 shapes anchors n → path_corners_verdict shapes anchors places numbers ≡ found_verdict (path_corner shapes anchors) (corner_places shapes anchors) places numbers
+  unfolding path_corners_verdict found_verdict judge holds
   opened_there o = in_order _ _ _ _ _ _ ∙ rw (o.lists_pass, o.places_good true)
 
   pub not_opened : (n k : ℕ) → opened_path 512 shapes anchors ≡ opened.Refused n k
-      → (Refused n k ≡ pathCornersAnswer shapes anchors places numbers)
-      × ((places ≡ pathCornersPlaces shapes anchors places numbers) × (numbers ≡ pathCornersNumbers shapes anchors places numbers))
-  unfolding pathCornersAnswer pathCornersPlaces pathCornersNumbers
+      → (Refused n k ≡ path_corners_answer shapes anchors places numbers)
+      × ((places ≡ path_corners_places shapes anchors places numbers) × (numbers ≡ path_corners_numbers shapes anchors places numbers))
+  unfolding path_corners_answer path_corners_places path_corners_numbers
   not_opened n k e = let v = refused_there n k e in (answer-refused _ v, (list_kept _ _ _ v, list_kept _ _ _ v))
 
   pub as_found : {n : ℕ} → PathOpens 512 shapes anchors n
-      → (foundAnswer (path_corner shapes anchors) (corner_places shapes anchors) places numbers ≡ pathCornersAnswer shapes anchors places numbers)
-      × ((foundPlaces (path_corner shapes anchors) (corner_places shapes anchors) places numbers ≡ pathCornersPlaces shapes anchors places numbers)
-      × (foundNumbers (path_corner shapes anchors) (corner_places shapes anchors) places numbers ≡ pathCornersNumbers shapes anchors places numbers))
-  unfolding pathCornersAnswer pathCornersPlaces pathCornersNumbers foundAnswer foundPlaces foundNumbers
+      → (found_answer (path_corner shapes anchors) (corner_places shapes anchors) places numbers ≡ path_corners_answer shapes anchors places numbers)
+      × ((places_held (path_corner shapes anchors) (corner_places shapes anchors) places numbers ≡ path_corners_places shapes anchors places numbers)
+      × (found_numbers (path_corner shapes anchors) (corner_places shapes anchors) places numbers ≡ path_corners_numbers shapes anchors places numbers))
+  unfolding path_corners_answer path_corners_places path_corners_numbers found_answer places_held found_numbers
   as_found o = let v = opened_there o in (rw v, (rw v, rw v))

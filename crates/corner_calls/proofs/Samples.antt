@@ -24,7 +24,7 @@ use Rattle.cut.specs.Places.{corner_at}
 use Rattle.cut_calls.specs.PlainCut.{sub_at}
 use Rattle.corner_calls.specs.declared.calls.Corners.TheVariants.{Accepted}
 use Rattle.corner_calls.specs.Corners.{plain_view, path_corner, chosen, found_below, corner_places, corner_numbers, numbers_of}
-use Rattle.corner_calls.specs.Calls.{corners_in, corners_room, corners_answer, pathCornersVerdict, pathCornersAnswer, pathCornersPlaces}
+use Rattle.corner_calls.specs.Calls.{corners_in, corners_room, corners_answer, path_corners_verdict, path_corners_answer, path_corners_places}
 
 abbrev f : ℕ → Float
 f b = of_bits binary64 b
@@ -52,6 +52,6 @@ abbrev nine : List Float
 nine = f 0 ∷ f 0 ∷ f 0 ∷ f 0 ∷ f 0 ∷ f 0 ∷ f 0 ∷ f 0 ∷ f 0 ∷ []
 
 -- what stands behind the corners stays
-listed : (pathCornersAnswer (3 ∷ []) turn (7 ∷ 9 ∷ []) nine ≡ Accepted 1) × (pathCornersPlaces (3 ∷ []) turn (7 ∷ 9 ∷ []) nine ≡ 1 ∷ 9 ∷ [])
-unfolding corner_places found_below chosen path_corner sub_of sub_at plain_view view_of corner_at arrives leaves prev next corner_of is_smooth between direction towards unit meet sharp sin cos length_of is_straight_side is_finite abs min max plus minus times dot cross len dist root_of of_bits add sub mul div lt le eq neg corner_numbers max_radius radius_at_setback numbers_of pathCornersAnswer pathCornersPlaces pathCornersVerdict corners_answer corners_in corners_room list_left overwrite verdict first_failing judge tests holds path_fits path_limit places first_false anchor_in all in_limit
+listed : (path_corners_answer (3 ∷ []) turn (7 ∷ 9 ∷ []) nine ≡ Accepted 1) × (path_corners_places (3 ∷ []) turn (7 ∷ 9 ∷ []) nine ≡ 1 ∷ 9 ∷ [])
+unfolding corner_places found_below chosen path_corner sub_of sub_at plain_view view_of corner_at arrives leaves prev next corner_of is_smooth between direction towards unit meet sharp sin cos length_of is_straight_side is_finite abs min max plus minus times dot cross len dist root_of of_bits add sub mul div lt le eq neg corner_numbers max_radius radius_at_setback numbers_of path_corners_answer path_corners_places path_corners_verdict corners_answer corners_in corners_room list_left overwrite verdict first_failing judge tests holds path_fits path_limit places first_false anchor_in all in_limit
 listed = (refl, refl)

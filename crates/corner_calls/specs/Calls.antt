@@ -25,8 +25,8 @@ corners_answer (refused n place) m = Refused n place
 
 -- ---- the call: a path of at most 512 anchors
 module _ (shapes : List ℕ) (anchors : List Float) (places : List ℕ) (numbers : List Float) where
-  unfoldable pub pathCornersVerdict : Verdict
-  pathCornersVerdict =
+  unfoldable pub path_corners_verdict : Verdict
+  path_corners_verdict =
       let ps = corner_places shapes anchors in
       verdict
       (tests
@@ -37,27 +37,27 @@ module _ (shapes : List ℕ) (anchors : List Float) (places : List ℕ) (numbers
       (holds (corners_in (path_corner shapes anchors) ps) 0)
       (holds (corners_room (length ps) places numbers) 0))
 
-  unfoldable pub pathCornersAnswer : Corners
-  pathCornersAnswer = corners_answer pathCornersVerdict (length (corner_places shapes anchors))
+  unfoldable pub path_corners_answer : Corners
+  path_corners_answer = corners_answer path_corners_verdict (length (corner_places shapes anchors))
 
   -- the corners' places
-  unfoldable pub pathCornersPlaces : List ℕ
-  pathCornersPlaces = list_left pathCornersVerdict (length (corner_places shapes anchors)) (λ i. get_or (corner_places shapes anchors) i 0) places
+  unfoldable pub path_corners_places : List ℕ
+  path_corners_places = list_left path_corners_verdict (length (corner_places shapes anchors)) (λ i. get_or (corner_places shapes anchors) i 0) places
 
   -- nine numbers of each
-  unfoldable pub pathCornersNumbers : List Float
-  pathCornersNumbers = list_left pathCornersVerdict (length (corner_places shapes anchors) * 9) (numbers_of (path_corner shapes anchors) (corner_places shapes anchors)) numbers
+  unfoldable pub path_corners_numbers : List Float
+  path_corners_numbers = list_left path_corners_verdict (length (corner_places shapes anchors) * 9) (numbers_of (path_corner shapes anchors) (corner_places shapes anchors)) numbers
 
 -- ---- corners that are found: what is still tested, answered and left
 module _ (corner : ℕ → Corner) (ps places : List ℕ) (numbers : List Float) where
-  unfoldable pub foundVerdict : Verdict
-  foundVerdict = judge (holds (corners_in corner ps) 0) 9 (judge (holds (corners_room (length ps) places numbers) 0) 8 accepted)
+  unfoldable pub found_verdict : Verdict
+  found_verdict = judge (holds (corners_in corner ps) 0) 9 (judge (holds (corners_room (length ps) places numbers) 0) 8 accepted)
 
-  unfoldable pub foundAnswer : Corners
-  foundAnswer = corners_answer foundVerdict (length ps)
+  unfoldable pub found_answer : Corners
+  found_answer = corners_answer found_verdict (length ps)
 
-  unfoldable pub foundPlaces : List ℕ
-  foundPlaces = list_left foundVerdict (length ps) (λ i. get_or ps i 0) places
+  unfoldable pub places_held : List ℕ
+  places_held = list_left found_verdict (length ps) (λ i. get_or ps i 0) places
 
-  unfoldable pub foundNumbers : List Float
-  foundNumbers = list_left foundVerdict (length ps * 9) (numbers_of corner ps) numbers
+  unfoldable pub found_numbers : List Float
+  found_numbers = list_left found_verdict (length ps * 9) (numbers_of corner ps) numbers

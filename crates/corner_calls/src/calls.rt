@@ -2,14 +2,14 @@
 ghost use Rattle.std.specs.Prelude.{◌≡◌, ◌*◌, ◌≤◌, length};
 ghost use Rattle.path.specs.Shape.{total};
 ghost use Rattle.corner_calls.specs.Corners.{path_corner, corner_places};
-ghost use Rattle.corner_calls.specs.Calls.{pathCornersAnswer, pathCornersPlaces, pathCornersNumbers, foundAnswer, foundPlaces, foundNumbers};
+ghost use Rattle.corner_calls.specs.Calls.{path_corners_answer, path_corners_places, path_corners_numbers, found_answer, places_held, found_numbers};
 
 use crate::finding::find_corners;
 use crate::limits::all_in_limit;
 use call::Opened;
 
 // A refusal's number and place, or how many corners there are.
-#[derive(Drop)]
+#[derive(Clone, Copy)]
 pub enum Corners {
     Refused(u32, usize),
     Accepted(usize),
@@ -23,9 +23,9 @@ pub fn path_corners(
     places: &mut [u32],
     numbers: &mut [f64],
 ) -> Corners
-    ensures answer { result ≡ pathCornersAnswer shapes.now anchors.now places.old numbers.old }
-    ensures places { places.new ≡ pathCornersPlaces shapes.now anchors.now places.old numbers.old }
-    ensures numbers { numbers.new ≡ pathCornersNumbers shapes.now anchors.now places.old numbers.old }
+    ensures answer { result ≡ path_corners_answer shapes.now anchors.now places.old numbers.old }
+    ensures places { places.new ≡ path_corners_places shapes.now anchors.now places.old numbers.old }
+    ensures numbers { numbers.new ≡ path_corners_numbers shapes.now anchors.now places.old numbers.old }
 {
     let opened = call::open_path(512, shapes, anchors);
     match opened {
@@ -37,9 +37,9 @@ pub fn path_corners(
 // The corners are found in scratch: refused 9 where a number breaks the limit, 8 where a list is too short, else copied.
 fn list_corners(shapes: &[u32], anchors: &[f64], places: &mut [u32], numbers: &mut [f64]) -> Corners
     requires { (length shapes.now ≤ 32) × (total shapes.now ≤ 512) × (total shapes.now * 6 ≤ length anchors.now) }
-    ensures answer { result ≡ foundAnswer (path_corner shapes.now anchors.now) (corner_places shapes.now anchors.now) places.old numbers.old }
-    ensures places { places.new ≡ foundPlaces (path_corner shapes.now anchors.now) (corner_places shapes.now anchors.now) places.old numbers.old }
-    ensures numbers { numbers.new ≡ foundNumbers (path_corner shapes.now anchors.now) (corner_places shapes.now anchors.now) places.old numbers.old }
+    ensures answer { result ≡ found_answer (path_corner shapes.now anchors.now) (corner_places shapes.now anchors.now) places.old numbers.old }
+    ensures places { places.new ≡ places_held (path_corner shapes.now anchors.now) (corner_places shapes.now anchors.now) places.old numbers.old }
+    ensures numbers { numbers.new ≡ found_numbers (path_corner shapes.now anchors.now) (corner_places shapes.now anchors.now) places.old numbers.old }
 {
     let mut at = [0u32; 512];
     let mut rows = [0.0f64; 4608];

@@ -1,4 +1,6 @@
 // The call `path_corners`: every corner of a path that can be cut, in order, to lent lists.
+#![tactic(auto)]
+
 mod calls;
 mod finding;
 mod limits;

@@ -1,6 +1,6 @@
 -- What a call's tests come to, and what the call then answers and leaves. Assumes nothing.
 use mathlib.Core.Path.{◌≡◌, sym, ◌∙◌}
-use mathlib.Core.Bool.{Bool, true, false, not, ◌&&◌, and_false}
+use mathlib.Core.Bool.{Bool, true, false, not, ◌&&◌, and-false}
 use mathlib.Core.List.{List}
 use Prim.Native.Nat.{ℕ, ◌*◌, ◌≤◌, ◌<◌}
 use lib.ListN.{length}
@@ -39,7 +39,7 @@ pub first_fails : {a : Bool} (b : Bool) → a ≡ false → (a && b) ≡ false
 first_fails b p = rw p
 
 pub second_fails : (a : Bool) {b : Bool} → b ≡ false → (a && b) ≡ false
-second_fails a p = rw p (and_false a)
+second_fails a p = rw p (and-false a)
 
 -- ---- the verdict
 pub given_fails : {given : Bool} (made room : Bool) → given ≡ false → judged given made room ≡ refused 5 0

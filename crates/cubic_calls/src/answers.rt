@@ -2,21 +2,21 @@
 use geom::P;
 
 // A number.
-#[derive(Drop)]
+#[derive(Clone, Copy)]
 pub enum Number {
     Refused(u32, usize),
     Accepted(f64),
 }
 
 // A point.
-#[derive(Drop)]
+#[derive(Clone, Copy)]
 pub enum Point {
     Refused(u32, usize),
     Accepted(P),
 }
 
 // Points in a lent list: how many.
-#[derive(Drop)]
+#[derive(Clone, Copy)]
 pub enum Filled {
     Refused(u32, usize),
     Accepted(usize),

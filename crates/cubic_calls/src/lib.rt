@@ -1,4 +1,6 @@
 // The calls of document 01 on points and cubics: each tests what it is given and what it gives, and refuses by number and place.
+#![tactic(auto)]
+
 mod answers;
 mod curves;
 mod limits;

@@ -82,16 +82,16 @@ module _ (shapes : List ℕ) (anchors radii : List Float) (kind : CornerKind) (n
   word-laid s l = rw (subpath-laid s l)
 
   -- ---- so what is handed over is the plain cut's
-  module _ (toShapes : List ℕ) (to : List Float) where
-    pub answer-laid : made_answer (length shapes) (outline_of shapes (place_read numbers flags)) toShapes to
-        ≡ made_answer (length shapes) (cut_up_to (view_at shapes anchors radii kind) (length shapes)) toShapes to
+  module _ (to_shapes : List ℕ) (to : List Float) where
+    pub answer-laid : made_answer (length shapes) (outline_of shapes (place_read numbers flags)) to_shapes to
+        ≡ made_answer (length shapes) (cut_up_to (view_at shapes anchors radii kind) (length shapes)) to_shapes to
     answer-laid = rw outline-laid
 
-    pub anchors_laid : made_anchors (length shapes) (outline_of shapes (place_read numbers flags)) toShapes to
-        ≡ made_anchors (length shapes) (cut_up_to (view_at shapes anchors radii kind) (length shapes)) toShapes to
+    pub anchors_laid : made_anchors (length shapes) (outline_of shapes (place_read numbers flags)) to_shapes to
+        ≡ made_anchors (length shapes) (cut_up_to (view_at shapes anchors radii kind) (length shapes)) to_shapes to
     anchors_laid = rw outline-laid
 
-    pub shapes_laid : made_shapes (length shapes) (outline_of shapes (place_read numbers flags)) (outline_shapes shapes (place_read numbers flags)) toShapes to
-        ≡ made_shapes (length shapes) (cut_up_to (view_at shapes anchors radii kind) (length shapes)) (cut_shape (view_at shapes anchors radii kind)) toShapes to
+    pub shapes_laid : made_shapes (length shapes) (outline_of shapes (place_read numbers flags)) (outline_shapes shapes (place_read numbers flags)) to_shapes to
+        ≡ made_shapes (length shapes) (cut_up_to (view_at shapes anchors radii kind) (length shapes)) (cut_shape (view_at shapes anchors radii kind)) to_shapes to
     unfolding made_shapes
-    shapes_laid = rw outline-laid (list_same (made_verdict (length shapes) (cut_up_to view (length shapes)) toShapes to) (length shapes) _ _ toShapes word-laid)
+    shapes_laid = rw outline-laid (list_same (made_verdict (length shapes) (cut_up_to view (length shapes)) to_shapes to) (length shapes) _ _ to_shapes word-laid)

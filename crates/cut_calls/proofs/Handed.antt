@@ -44,23 +44,23 @@ module _ (shapes : List ℕ) (f : ℕ → Place) (few : total shapes ≤ 512) (v
   pub front_total : total (take (length shapes) ws) ≡ length (outline_of shapes f)
   front_total = ap total front_is ∙ outline-total shapes f few
 
-  module _ (toShapes : List ℕ) (to : List Float) where
-    verdict-made : handed_verdict front made toShapes to ≡ made_verdict (length shapes) (outline_of shapes f) toShapes to
+  module _ (to_shapes : List ℕ) (to : List Float) where
+    verdict-made : handed_verdict front made to_shapes to ≡ made_verdict (length shapes) (outline_of shapes f) to_shapes to
     unfolding made_verdict
     verdict-made =
         rw front_length at
-        (listed-verdict (outline_of shapes f) xs (omega (arith, outline_few shapes f)) front made toShapes to e front_total)
+        (listed-verdict (outline_of shapes f) xs (omega (arith, outline_few shapes f)) front made to_shapes to e front_total)
 
-    pub answer-made : handed_answer (take (length shapes) ws) made toShapes to ≡ made_answer (length shapes) (outline_of shapes f) toShapes to
+    pub answer-made : handed_answer (take (length shapes) ws) made to_shapes to ≡ made_answer (length shapes) (outline_of shapes f) to_shapes to
     unfolding handed_answer made_answer
     answer-made = rw (verdict-made, front_length, front_total)
 
-    pub shapes_made : handed_shapes (take (length shapes) ws) made toShapes to ≡ made_shapes (length shapes) (outline_of shapes f) (outline_shapes shapes f) toShapes to
+    pub shapes_made : handed_shapes (take (length shapes) ws) made to_shapes to ≡ made_shapes (length shapes) (outline_of shapes f) (outline_shapes shapes f) to_shapes to
     unfolding handed_shapes made_shapes
     shapes_made =
         rw (verdict-made, front_length)
-        (list_same _ (length shapes) _ _ toShapes (λ s l. ap (λ z. get_or z s 0) front_is ∙ at_tabulate 0 (length shapes) (outline_shapes shapes f) s l))
+        (list_same _ (length shapes) _ _ to_shapes (λ s l. ap (λ z. get_or z s 0) front_is ∙ at_tabulate 0 (length shapes) (outline_shapes shapes f) s l))
 
-    pub anchors_made : handed_anchors (take (length shapes) ws) made toShapes to ≡ made_anchors (length shapes) (outline_of shapes f) toShapes to
+    pub anchors_made : handed_anchors (take (length shapes) ws) made to_shapes to ≡ made_anchors (length shapes) (outline_of shapes f) to_shapes to
     unfolding made_anchors
-    anchors_made = rw (← verdict-made) (listed_anchors (outline_of shapes f) xs (omega (arith, outline_few shapes f)) front made toShapes to e front_total)
+    anchors_made = rw (← verdict-made) (listed_anchors (outline_of shapes f) xs (omega (arith, outline_few shapes f)) front made to_shapes to e front_total)

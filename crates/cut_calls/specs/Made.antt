@@ -7,14 +7,14 @@ use Rattle.call.specs.Tests.{outline_limit, room_for}
 use Rattle.call.specs.Answers.{outline_answer, list_left, anchors_left}
 
 unfoldable pub made_verdict : ℕ → List Anchor → List ℕ → List Float → Verdict
-made_verdict m ps toShapes to = judge (outline_limit ps) 9 (judge (holds (room_for m (length ps) toShapes to) 0) 8 accepted)
+made_verdict m ps to_shapes to = judge (outline_limit ps) 9 (judge (holds (room_for m (length ps) to_shapes to) 0) 8 accepted)
 
 unfoldable pub made_answer : ℕ → List Anchor → List ℕ → List Float → Outline
-made_answer m ps toShapes to = outline_answer (made_verdict m ps toShapes to) m (length ps)
+made_answer m ps to_shapes to = outline_answer (made_verdict m ps to_shapes to) m (length ps)
 
 -- its shape words are f 0, .., f (m - 1)
 unfoldable pub made_shapes : ℕ → List Anchor → (ℕ → ℕ) → List ℕ → List Float → List ℕ
-made_shapes m ps f toShapes to = list_left (made_verdict m ps toShapes to) m f toShapes
+made_shapes m ps f to_shapes to = list_left (made_verdict m ps to_shapes to) m f to_shapes
 
 unfoldable pub made_anchors : ℕ → List Anchor → List ℕ → List Float → List Float
-made_anchors m ps toShapes to = anchors_left (made_verdict m ps toShapes to) ps to
+made_anchors m ps to_shapes to = anchors_left (made_verdict m ps to_shapes to) ps to

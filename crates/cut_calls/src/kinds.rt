@@ -5,7 +5,7 @@ ghost use Rattle.cut_calls.specs.CornerKinds.{kind_of};
 use corner::CornerKind;
 
 // A kind by its number: 0 round, 1 inverted, 2 chamfer.
-#[derive(Drop)]
+#[derive(Clone, Copy)]
 pub enum Kind {
     Known(CornerKind),
     Unknown,

@@ -1,5 +1,7 @@
 // What the calls that cut a drawing share, the plain cut and those on the cut cache: the kinds of cut by number, every subpath cut, and
 // the outline of the places handed over.
+#![tactic(auto)]
+
 mod drawing;
 mod handing;
 mod kinds;

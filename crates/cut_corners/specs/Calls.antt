@@ -21,7 +21,7 @@ cut_words shapes anchors radii Unknown s = 0
 
 -- a kind that is not known stands after the places, at the anchor count, as every loose argument
 unfoldable pub cut_verdict : List ℕ → List Float → List Float → ℕ → List ℕ → List Float → Verdict
-cut_verdict shapes anchors radii kind toShapes to =
+cut_verdict shapes anchors radii kind to_shapes to =
     let k = kind_of kind in
     let ps = cut_outline shapes anchors radii k in
     verdict
@@ -31,16 +31,16 @@ cut_verdict shapes anchors radii kind toShapes to =
     passes
     passes
     (outline_limit ps)
-    (holds (room_for (length shapes) (length ps) toShapes to) 0))
+    (holds (room_for (length shapes) (length ps) to_shapes to) 0))
 
 unfoldable pub cut_answer : List ℕ → List Float → List Float → ℕ → List ℕ → List Float → Outline
-cut_answer shapes anchors radii kind toShapes to =
-    outline_answer (cut_verdict shapes anchors radii kind toShapes to) (length shapes) (length (cut_outline shapes anchors radii (kind_of kind)))
+cut_answer shapes anchors radii kind to_shapes to =
+    outline_answer (cut_verdict shapes anchors radii kind to_shapes to) (length shapes) (length (cut_outline shapes anchors radii (kind_of kind)))
 
 unfoldable pub cut_shapes_left : List ℕ → List Float → List Float → ℕ → List ℕ → List Float → List ℕ
-cut_shapes_left shapes anchors radii kind toShapes to =
-    list_left (cut_verdict shapes anchors radii kind toShapes to) (length shapes) (cut_words shapes anchors radii (kind_of kind)) toShapes
+cut_shapes_left shapes anchors radii kind to_shapes to =
+    list_left (cut_verdict shapes anchors radii kind to_shapes to) (length shapes) (cut_words shapes anchors radii (kind_of kind)) to_shapes
 
 unfoldable pub cut_anchors_left : List ℕ → List Float → List Float → ℕ → List ℕ → List Float → List Float
-cut_anchors_left shapes anchors radii kind toShapes to =
-    anchors_left (cut_verdict shapes anchors radii kind toShapes to) (cut_outline shapes anchors radii (kind_of kind)) to
+cut_anchors_left shapes anchors radii kind to_shapes to =
+    anchors_left (cut_verdict shapes anchors radii kind to_shapes to) (cut_outline shapes anchors radii (kind_of kind)) to

@@ -1,4 +1,6 @@
 // Edits of a path, after 000: an anchor put into a segment, a subpath turned round.
+#![tactic(auto)]
+
 mod gap;
 mod reversal;
 mod splitting;

@@ -15,7 +15,7 @@ use call::{Opened, Outline};
 use path::{Anchor, Found};
 
 // The ends of a split segment, and the anchor between them.
-#[derive(Drop)]
+#[derive(Clone, Copy)]
 pub struct Halved {
     pub left: Anchor,
     pub middle: Anchor,

@@ -17,11 +17,11 @@ use Rattle.hit.specs.declared.best.Best.{Best}
 use Rattle.hit.specs.declared.located.Located.{Located}
 use Rattle.hit.specs.declared.segments.HitSegment.TheVariants as segment
 use Rattle.hit.specs.Located.{index_of, located}
-use Rattle.hit.specs.Steps.{stepOffset, stepParameter, wordOver, startsAt, curveFrom, chordDistance, chordWithin, nearestChord}
+use Rattle.hit.specs.Steps.{step_offset, step_parameter, word_over, starts_at, curve_from, chord_distance, chord_within, nearest_chord}
 use Rattle.hit.specs.Tried.{tried, tried_from}
-use Rattle.hit.specs.Calls.{hit_verdict, segmentAnswer, hit_segment_answer}
+use Rattle.hit.specs.Calls.{hit_verdict, segment_answer, hit_segment_answer}
 use Rattle.real.proofs.Orders.{le-number}
-use Rattle.hit.proofs.Subpaths.{sub_at_lem, index_at, Placed, placed}
+use Rattle.hit.proofs.Subpaths.{sub_at_lem, index_at, placed}
 use Rattle.hit.proofs.Walked.{Stands, stands_skipped, stands-tried}
 use Rattle.hit.proofs.Theorems.{nearest-is}
 
@@ -34,7 +34,7 @@ chord-step N x j h = mul-add-mod_self_right x N j ∙ mod-eq_of_lt h
 
 module _ (shapes : List ℕ) (anchors : List Float) (N : ℕ) (q : P) (tol : Float) where
   abbrev pub ChordsStand : ℕ → Best → Type 0
-  ChordsStand i b = Stands (chordWithin shapes anchors N q tol) (chordDistance shapes anchors N q) i b
+  ChordsStand i b = Stands (chord_within shapes anchors N q tol) (chord_distance shapes anchors N q) i b
 
   -- ---- anchor a of subpath s
   module _ (s : ℕ) (l : s < length shapes) where
@@ -48,29 +48,29 @@ module _ (shapes : List ℕ) (anchors : List Float) (N : ℕ) (q : P) (tol : Flo
     k = start shapes s
 
     module _ (a : ℕ) (h : a < n) where
-      starts : startsAt shapes (k + a) ≡ is_segment n closed a
-      unfolding startsAt wordOver
+      starts : starts_at shapes (k + a) ≡ is_segment n closed a
+      unfolding starts_at word_over
       starts = rw (sub_at_lem shapes s a l h, index_at shapes s a l h)
 
-      curve : curveFrom shapes anchors (k + a) ≡ curve_of anchors k n a
-      unfolding curveFrom wordOver
+      curve : curve_from shapes anchors (k + a) ≡ curve_of anchors k n a
+      unfolding curve_from word_over
       curve = rw (sub_at_lem shapes s a l h, index_at shapes s a l h)
 
-      distance : (j : ℕ) → j < N → chordDistance shapes anchors N q ((k + a) * N + j) ≡ len (stepOffset N q (curve_of anchors k n a) j)
-      unfolding chordDistance
+      distance : (j : ℕ) → j < N → chord_distance shapes anchors N q ((k + a) * N + j) ≡ len (step_offset N q (curve_of anchors k n a) j)
+      unfolding chord_distance
       distance j m = rw (chord_place N (k + a) j m, chord-step N (k + a) j m, curve)
 
       within-is : (b : Bool) → is_segment n closed a ≡ b → (j : ℕ) → j < N
-          → chordWithin shapes anchors N q tol ((k + a) * N + j) ≡ (b && le (len (stepOffset N q (curve_of anchors k n a) j)) tol)
-      unfolding chordWithin
+          → chord_within shapes anchors N q tol ((k + a) * N + j) ≡ (b && le (len (step_offset N q (curve_of anchors k n a) j)) tol)
+      unfolding chord_within
       within-is b e j m = rw (distance j m, chord_place N (k + a) j m, starts, e)
 
       one_segment : (r : Best) → ChordsStand ((k + a) * N) r
-          → ChordsStand ((k + a) * N + N) (cond (is_segment n closed a) (tried tol ((k + a) * N) (stepOffset N q (curve_of anchors k n a)) r N) r)
+          → ChordsStand ((k + a) * N + N) (cond (is_segment n closed a) (tried tol ((k + a) * N) (step_offset N q (curve_of anchors k n a)) r N) r)
       one_segment r w = go (is_segment n closed a) refl
         where
-          go : (b : Bool) → is_segment n closed a ≡ b → ChordsStand ((k + a) * N + N) (cond (is_segment n closed a) (tried tol ((k + a) * N) (stepOffset N q (curve_of anchors k n a)) r N) r)
-          go true e = rw e (stands-tried _ _ tol ((k + a) * N) N (stepOffset N q (curve_of anchors k n a)) r w (within-is true e) distance)
+          go : (b : Bool) → is_segment n closed a ≡ b → ChordsStand ((k + a) * N + N) (cond (is_segment n closed a) (tried tol ((k + a) * N) (step_offset N q (curve_of anchors k n a)) r N) r)
+          go true e = rw e (stands-tried _ _ tol ((k + a) * N) N (step_offset N q (curve_of anchors k n a)) r w (within-is true e) distance)
           go false e = rw e (stands_skipped _ _ ((k + a) * N) N r w (within-is false e))
 
     segments_stand : (b : Best) → ChordsStand (k * N) b → (a : ℕ) → a ≤ n → ChordsStand ((k + a) * N) (tried_from tol N q anchors k n closed b a)
@@ -85,23 +85,23 @@ module _ (shapes : List ℕ) (anchors : List Float) (N : ℕ) (q : P) (tol : Flo
   subpath-stands s l x y b r e f w g = rw (f, g, e) (segments_stand s l b (rw e at w) (count_of (word_at shapes s)) (omega arith))
 
   -- what is found is a chord of the path
-  pub chord_below : (i : ℕ) → nearestChord shapes anchors N q tol ≡ At i → i < total shapes * N
-  unfolding nearestChord chordWithin
+  pub chord_below : (i : ℕ) → nearest_chord shapes anchors N q tol ≡ At i → i < total shapes * N
+  unfolding nearest_chord chord_within
   chord_below i e = (nearest-is _ _ number (total shapes * N) i e).place
     where
       right : (a b : Bool) → (a && b) ≡ true → b ≡ true
       right true b f = f
       right false b f = absurd (true≢false (sym f))
 
-      number : (j : ℕ) → chordWithin shapes anchors N q tol j ≡ true → is_nan (chordDistance shapes anchors N q j) ≡ false
-      number j f = le-number _ tol (right (startsAt shapes (j / N)) (le (chordDistance shapes anchors N q j) tol) f)
+      number : (j : ℕ) → chord_within shapes anchors N q tol j ≡ true → is_nan (chord_distance shapes anchors N q j) ≡ false
+      number j f = le-number _ tol (right (starts_at shapes (j / N)) (le (chord_distance shapes anchors N q j) tol) f)
 
 -- ---- the answer
 module _ (shapes : List ℕ) (anchors : List Float) (q : P) where
   pub chord-answer : (i : ℕ) → i / 48 < total shapes → (o : Located) (c : List P) (t : Float) → o ≡ located shapes (i / 48)
-      → c ≡ curve_of anchors (i / 48 - o.anchor) (count_of (word_at shapes o.subpath)) o.anchor → t ≡ stepParameter 48 q c (i % 48)
-      → segment.At o.subpath o.anchor t ≡ segmentAnswer 48 shapes anchors q accepted (At i)
-  unfolding segmentAnswer curveFrom wordOver located
+      → c ≡ curve_of anchors (i / 48 - o.anchor) (count_of (word_at shapes o.subpath)) o.anchor → t ≡ step_parameter 48 q c (i % 48)
+      → segment.At o.subpath o.anchor t ≡ segment_answer 48 shapes anchors q accepted (At i)
+  unfolding segment_answer curve_from word_over located
   chord-answer i h o c t o_is c-is t-is =
       let p = (placed shapes (i / 48) h).place in
       let e : i / 48 - index_of shapes (i / 48) ≡ start shapes (sub_of shapes (i / 48)) = omega arith in
@@ -109,14 +109,14 @@ module _ (shapes : List ℕ) (anchors : List Float) (q : P) where
 
 module _ (shapes : List ℕ) (anchors : List Float) (q : P) (tol : Float) where
   pub segment-refused : (c k : ℕ) → hit_verdict shapes anchors q tol ≡ refused c k → segment.Refused c k ≡ hit_segment_answer shapes anchors q tol
-  unfolding hit_segment_answer segmentAnswer
+  unfolding hit_segment_answer segment_answer
   segment-refused c k e = rw e
 
   module _ (p : hit_verdict shapes anchors q tol ≡ accepted) where
-    pub segment_missed : nearestChord shapes anchors 48 q tol ≡ Nothing → segment.Nothing ≡ hit_segment_answer shapes anchors q tol
-    unfolding hit_segment_answer segmentAnswer
+    pub segment_missed : nearest_chord shapes anchors 48 q tol ≡ Nothing → segment.Nothing ≡ hit_segment_answer shapes anchors q tol
+    unfolding hit_segment_answer segment_answer
     segment_missed e = rw (p, e)
 
-    pub segment_found : (i : ℕ) → nearestChord shapes anchors 48 q tol ≡ At i → segmentAnswer 48 shapes anchors q accepted (At i) ≡ hit_segment_answer shapes anchors q tol
+    pub segment_found : (i : ℕ) → nearest_chord shapes anchors 48 q tol ≡ At i → segment_answer 48 shapes anchors q accepted (At i) ≡ hit_segment_answer shapes anchors q tol
     unfolding hit_segment_answer
     segment_found i e = rw (p, e)

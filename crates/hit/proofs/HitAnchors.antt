@@ -1,6 +1,6 @@
 -- Document 01 on `hit_anchor`, as a theorem on its answer: an accepted call answers nothing exactly when no anchor is within tol (equal counts), else the nearest, the first on ties.
 -- Assumes nothing.
-use mathlib.Core.Path.{◌≡◌, refl, sym, ◌∙◌}
+use mathlib.Core.Path.{◌≡◌, refl, sym}
 use mathlib.Core.Logic.{◌↔◌}
 use mathlib.Core.Bool.{false}
 use mathlib.Core.List.{List}
@@ -12,12 +12,11 @@ use Rattle.geom.specs.declared.point.P.{P}
 use Rattle.refusal.specs.Order.{accepted}
 use Rattle.path.specs.declared.limit.Found.{Found}
 use Rattle.path.specs.declared.limit.Found.TheVariants as found
-use Rattle.path.specs.Shape.{count_of, word_at, total, start, sub_of}
+use Rattle.path.specs.Shape.{count_of, word_at, total, start}
 use Rattle.hit.specs.declared.anchors.HitAnchor.TheVariants.{Nothing, At}
-use Rattle.hit.specs.Located.{index_of}
 use Rattle.hit.specs.Calls.{hit_verdict, anchor_distance, nearest_anchor, anchor_answer, hit_anchor_answer}
 use Rattle.real.proofs.Orders.{le-number}
-use Rattle.hit.proofs.Subpaths.{Placed, placed}
+use Rattle.hit.proofs.Subpaths.{placed}
 use Rattle.hit.proofs.Theorems.{NearestWithin, nothing_is, nearest-is}
 
 module _ (shapes : List ℕ) (anchors : List Float) (q : P) (tol : Float) (passed : hit_verdict shapes anchors q tol ≡ accepted) where

@@ -14,7 +14,7 @@ use Rattle.path.specs.Flat.{curve_of}
 use Rattle.path.specs.Shape.{is_segment}
 use Rattle.hit.specs.declared.best.Best.{Best}
 use Rattle.hit.specs.Best.{taken}
-use Rattle.hit.specs.Steps.{1e-12, along, offset, stepOffset}
+use Rattle.hit.specs.Steps.{1e-12, along, offset, step_offset}
 use Rattle.hit.specs.Tried.{tried, tried_from}
 
 module _ (q a b d : P) (s : Float) (d-is : d ≡ minus b a) (s-is : s ≡ dot d d) where
@@ -31,8 +31,8 @@ unfolding offset
 offset-is q a b d m s r u u-is d-is m-is s-is r-is = rw (← u-is, ← d-is, ← m-is, ← s-is) r-is
 
 -- ---- one more chord
-pub chord-offset : (N : ℕ) (q : P) (c : List P) (j : ℕ) (from to w : P) → from ≡ step_at c N j → to ≡ step_at c N (j + 1) → w ≡ offset q from to → w ≡ stepOffset N q c j
-unfolding stepOffset
+pub chord-offset : (N : ℕ) (q : P) (c : List P) (j : ℕ) (from to w : P) → from ≡ step_at c N j → to ≡ step_at c N (j + 1) → w ≡ offset q from to → w ≡ step_offset N q c j
+unfolding step_offset
 chord-offset N q c j from to w f t e = rw (← f, ← t) e
 
 pub tried_more : (tol : Float) (i : ℕ) (v : ℕ → P) (b₀ b r : Best) (j : ℕ) (w : P) → b ≡ tried tol i v b₀ j → w ≡ v j → r ≡ taken tol b (i + j) w → r ≡ tried tol i v b₀ (j + 1)
@@ -45,6 +45,6 @@ module _ (tol : Float) (N : ℕ) (q : P) (anchors : List Float) (k n : ℕ) (clo
   unfolding tried_from
   from_skip t = rw (add-one a, t) e
 
-  pub from_more : is_segment n closed a ≡ true → (c : List P) (r : Best) → c ≡ curve_of anchors k n a → r ≡ tried tol ((k + a) * N) (stepOffset N q c) b N → r ≡ tried_from tol N q anchors k n closed b₀ (a + 1)
+  pub from_more : is_segment n closed a ≡ true → (c : List P) (r : Best) → c ≡ curve_of anchors k n a → r ≡ tried tol ((k + a) * N) (step_offset N q c) b N → r ≡ tried_from tol N q anchors k n closed b₀ (a + 1)
   unfolding tried_from
   from_more t c r f g = rw (add-one a, t, ← e, ← f) g

@@ -9,14 +9,14 @@ use lib.Ieee.{Float, le}
 use Rattle.real.specs.Limit.{in_limit}
 use Rattle.geom.specs.declared.point.P.{P}
 use Rattle.geom.specs.Point.{minus}
-use Rattle.refusal.specs.Order.{passes, holds, judge, Verdict, accepted, refused}
+use Rattle.refusal.specs.Order.{judge, Verdict, accepted, refused}
 use Rattle.refusal.proofs.Verdicts.{holds_true, holds_false, in_order, by_arguments, by_none}
 use Rattle.path.specs.declared.limit.Found.TheVariants.{At, Nothing}
 use Rattle.path.specs.Shape.{total, sub_of}
 use Rattle.path.specs.Flat.{anchor_at}
 use Rattle.call.specs.declared.opening.Opened.{Opened}
 use Rattle.call.specs.declared.opening.Opened.TheVariants.{Refused, Anchors}
-use Rattle.call.specs.Tests.{opened, opened_path, path_fits, path_limit}
+use Rattle.call.specs.Tests.{opened, opened_path}
 use Rattle.call.proofs.Openings.{PathOpens, path_opens, path_refused}
 use Rattle.hit.specs.declared.best.Best.{Best}
 use Rattle.hit.specs.declared.anchors.HitAnchor.TheVariants as anchor

@@ -1,13 +1,12 @@
 -- The nearest of numbered candidates: nothing exactly when none is within, else the nearest of those within, the first on ties. For any number of candidates. Assumes nothing.
-use mathlib.Core.Path.{◌≡◌, refl, sym, ap, ◌∙◌}
+use mathlib.Core.Path.{◌≡◌, refl, sym, ◌∙◌}
 use mathlib.Core.Logic.{◌↔◌, ◌⊎◌, inl, inr, ⊎_elim}
-use mathlib.Core.Bool.{Bool, true, false, ◌&&◌, cond, true≢false}
-use Prim.Native.Nat.{ℕ, zero, suc, ◌+◌, ◌≤◌, ◌<◌}
+use mathlib.Core.Bool.{Bool, true, false, true≢false}
+use Prim.Native.Nat.{ℕ, zero, suc, ◌<◌}
 use native.Mathlib.Nat.{not-suc-le-zero, le_refl}
 use native.Mathlib.Omega.{arith}
 use lib.Ieee.{Float, is_nan, lt, le}
 use Rattle.views.proofs.Laws.{order}
-use Rattle.path.specs.declared.limit.Found.{Found}
 use Rattle.path.specs.declared.limit.Found.TheVariants.{At, Nothing}
 use Rattle.hit.specs.Nearest.{nearer, nearest}
 use Rattle.hit.proofs.Walked.{same_at, apart}

@@ -16,7 +16,7 @@ use Rattle.hit.specs.declared.segments.HitSegment.{HitSegment}
 use Rattle.hit.specs.declared.segments.HitSegment.TheVariants as segment
 use Rattle.hit.specs.Nearest.{nearest}
 use Rattle.hit.specs.Located.{index_of}
-use Rattle.hit.specs.Steps.{curveFrom, stepParameter, nearestChord}
+use Rattle.hit.specs.Steps.{curve_from, step_parameter, nearest_chord}
 
 -- the loose arguments
 unfoldable pub query_in : P → Float → Bool
@@ -44,10 +44,10 @@ hit_anchor_answer shapes anchors q tol = anchor_answer (hit_verdict shapes ancho
 
 -- ---- `hit_segment`, by N chords to a segment; 000 takes 48
 module _ (N : ℕ) (shapes : List ℕ) (anchors : List Float) (q : P) where
-  unfoldable pub segmentAnswer : Verdict → Found → HitSegment
-  segmentAnswer (refused n place) best = segment.Refused n place
-  segmentAnswer accepted found.Nothing = segment.Nothing
-  segmentAnswer accepted (found.At i) = segment.At (sub_of shapes (i / N)) (index_of shapes (i / N)) (stepParameter N q (curveFrom shapes anchors (i / N)) (i % N))
+  unfoldable pub segment_answer : Verdict → Found → HitSegment
+  segment_answer (refused n place) best = segment.Refused n place
+  segment_answer accepted found.Nothing = segment.Nothing
+  segment_answer accepted (found.At i) = segment.At (sub_of shapes (i / N)) (index_of shapes (i / N)) (step_parameter N q (curve_from shapes anchors (i / N)) (i % N))
 
 unfoldable pub hit_segment_answer : List ℕ → List Float → P → Float → HitSegment
-hit_segment_answer shapes anchors q tol = segmentAnswer 48 shapes anchors q (hit_verdict shapes anchors q tol) (nearestChord shapes anchors 48 q tol)
+hit_segment_answer shapes anchors q tol = segment_answer 48 shapes anchors q (hit_verdict shapes anchors q tol) (nearest_chord shapes anchors 48 q tol)

@@ -27,37 +27,37 @@ offset q a b = minus (plus a (times (minus b a) (along q a b))) q
 
 -- ---- chord j of the N of a curve
 module _ (N : ℕ) (q : P) (c : List P) (j : ℕ) where
-  unfoldable pub stepOffset : P
-  stepOffset = offset q (step_at c N j) (step_at c N (j + 1))
+  unfoldable pub step_offset : P
+  step_offset = offset q (step_at c N j) (step_at c N (j + 1))
 
   -- the curve's parameter there
-  unfoldable pub stepParameter : Float
-  stepParameter =
+  unfoldable pub step_parameter : Float
+  step_parameter =
       let from = float j ⊘ float N in
       let to = float (j + 1) ⊘ float N in
       from ⊕ (to ⊖ from) ⊗ along q (step_at c N j) (step_at c N (j + 1))
 
 module _ (shapes : List ℕ) where
   -- the word of the subpath in which place k lies
-  unfoldable pub wordOver : ℕ → ℕ
-  wordOver k = word_at shapes (sub_of shapes k)
+  unfoldable pub word_over : ℕ → ℕ
+  word_over k = word_at shapes (sub_of shapes k)
 
   -- a segment starts at place k
-  unfoldable pub startsAt : ℕ → Bool
-  startsAt k = is_segment (count_of (wordOver k)) (closed_of (wordOver k)) (index_of shapes k)
+  unfoldable pub starts_at : ℕ → Bool
+  starts_at k = is_segment (count_of (word_over k)) (closed_of (word_over k)) (index_of shapes k)
 
 module _ (shapes : List ℕ) (anchors : List Float) where
   -- the curve of the segment that starts there
-  unfoldable pub curveFrom : ℕ → List P
-  curveFrom k = curve_of anchors (start shapes (sub_of shapes k)) (count_of (wordOver shapes k)) (index_of shapes k)
+  unfoldable pub curve_from : ℕ → List P
+  curve_from k = curve_of anchors (start shapes (sub_of shapes k)) (count_of (word_over shapes k)) (index_of shapes k)
 
   -- ---- candidate i is chord i % N of the segment that starts at place i / N
   module _ (N : ℕ) (q : P) where
-    unfoldable pub chordDistance : ℕ → Float
-    chordDistance i = len (stepOffset N q (curveFrom (i / N)) (i % N))
+    unfoldable pub chord_distance : ℕ → Float
+    chord_distance i = len (step_offset N q (curve_from (i / N)) (i % N))
 
-    unfoldable pub chordWithin : Float → ℕ → Bool
-    chordWithin tol i = startsAt shapes (i / N) && le (chordDistance i) tol
+    unfoldable pub chord_within : Float → ℕ → Bool
+    chord_within tol i = starts_at shapes (i / N) && le (chord_distance i) tol
 
-    unfoldable pub nearestChord : Float → Found
-    nearestChord tol = nearest (chordWithin tol) chordDistance (total shapes * N)
+    unfoldable pub nearest_chord : Float → Found
+    nearest_chord tol = nearest (chord_within tol) chord_distance (total shapes * N)

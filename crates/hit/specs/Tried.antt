@@ -5,7 +5,7 @@ use Rattle.path.specs.Flat.{curve_of}
 use Rattle.path.specs.Shape.{is_segment}
 use Rattle.hit.specs.declared.best.Best.{Best}
 use Rattle.hit.specs.Best.{taken}
-use Rattle.hit.specs.Steps.{stepOffset}
+use Rattle.hit.specs.Steps.{step_offset}
 
 -- after candidates i, i + 1, .., m of them, which lie v 0, v 1, .. away
 unfoldable pub tried : Float → ℕ → (ℕ → P) → Best → ℕ → Best
@@ -18,4 +18,4 @@ unfolding tried
 tried_from tol N q anchors k n closed b zero = b
 tried_from tol N q anchors k n closed b (suc a) =
     let r = tried_from tol N q anchors k n closed b a in
-    cond (is_segment n closed a) (tried tol ((k + a) * N) (stepOffset N q (curve_of anchors k n a)) r N) r
+    cond (is_segment n closed a) (tried tol ((k + a) * N) (step_offset N q (curve_of anchors k n a)) r N) r

@@ -11,7 +11,7 @@ use geom::P;
 use path::Found;
 
 // A refusal's number and place, nothing, or a subpath and an anchor of it.
-#[derive(Drop)]
+#[derive(Clone, Copy)]
 pub enum HitAnchor {
     Refused(u32, usize),
     Nothing,

@@ -7,7 +7,7 @@ ghost use Rattle.hit.specs.Best.{beats, taken, Barred};
 use geom::P;
 use path::Found;
 
-#[derive(Drop)]
+#[derive(Clone, Copy)]
 pub struct Best {
     pub found: Found,
     // The distance of what was found, else 0.

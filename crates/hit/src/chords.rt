@@ -1,6 +1,6 @@
 // The chords of a segment: the point of a chord nearest another point.
 ghost use Rattle.std.specs.Prelude.{◌≡◌, ◌+◌, ◌*◌, ◌^◌, ◌≤◌, ◌<◌, length};
-ghost use Rattle.hit.specs.Steps.{along, offset, stepParameter};
+ghost use Rattle.hit.specs.Steps.{along, offset, step_parameter};
 
 use geom::P;
 
@@ -27,7 +27,7 @@ pub fn offset(q: P, a: P, b: P) -> P
 // The parameter, on the curve, of the point of chord j of n nearest q.
 pub fn parameter(n: usize, q: P, c: [P; 4], j: usize) -> f64
     requires { (n ≤ 2 ^ 53) × (j < 2 ^ 53) }
-    ensures { result ≡ stepParameter n q c j }
+    ensures { result ≡ step_parameter n q c j }
 {
     let u = along(q, cubic::step_at(c, n, j), cubic::step_at(c, n, j + 1));
     let from = j as f64 / n as f64;

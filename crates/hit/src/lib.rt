@@ -1,4 +1,6 @@
 // What lies near a point, after 000's `hit_anchor` and `hit_segment`.
+#![tactic(auto)]
+
 mod anchors;
 mod best;
 mod chords;

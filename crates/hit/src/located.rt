@@ -5,7 +5,7 @@ ghost use Rattle.hit.specs.Located.{located};
 
 use path::count_of;
 
-#[derive(Drop)]
+#[derive(Clone, Copy)]
 pub struct Located {
     pub subpath: usize,
     pub anchor: usize,

@@ -5,9 +5,9 @@ ghost use Rattle.refusal.specs.Order.{accepted};
 ghost use Rattle.path.specs.declared.limit.Found.TheVariants.{At};
 ghost use Rattle.path.specs.Shape.{total};
 ghost use Rattle.hit.specs.Best.{Barred};
-ghost use Rattle.hit.specs.Steps.{stepOffset, nearestChord};
+ghost use Rattle.hit.specs.Steps.{step_offset, nearest_chord};
 ghost use Rattle.hit.specs.Tried.{tried, tried_from};
-ghost use Rattle.hit.specs.Calls.{segmentAnswer, hit_segment_answer};
+ghost use Rattle.hit.specs.Calls.{segment_answer, hit_segment_answer};
 
 use crate::best::Best;
 use crate::chords::{offset, parameter};
@@ -18,7 +18,7 @@ use geom::P;
 use path::Found;
 
 // A refusal's number and place, nothing, or a subpath, the anchor at which the segment starts, and the parameter along it.
-#[derive(Drop)]
+#[derive(Clone, Copy)]
 pub enum HitSegment {
     Refused(u32, usize),
     Nothing,
@@ -28,7 +28,7 @@ pub enum HitSegment {
 // The best after the chords of a curve, candidates i to i + 47. Each point of the curve is computed once.
 fn try_curve(c: [P; 4], i: usize, q: P, tol: f64, best: Best) -> Best
     requires { (Barred tol best) × (i ≤ 65536) }
-    ensures best { result ≡ tried tol i (stepOffset 48 q c) best 48 }
+    ensures best { result ≡ tried tol i (step_offset 48 q c) best 48 }
     ensures bar { Barred tol result }
 {
     let mut b = best;
@@ -68,7 +68,7 @@ fn try_subpath(
 // The number of the nearest chord.
 fn nearest_chord(shapes: &[u32], anchors: &[f64], q: P, tol: f64) -> Found
     requires { (length shapes.now ≤ 32) × (total shapes.now ≤ 512) × (total shapes.now * 6 ≤ length anchors.now) × (in_limit tol ≡ true) }
-    ensures { result ≡ nearestChord shapes.now anchors.now 48 q tol }
+    ensures { result ≡ nearest_chord shapes.now anchors.now 48 q tol }
 {
     let mut best = Best::nothing(tol);
     let mut k: usize = 0;
@@ -83,7 +83,7 @@ fn nearest_chord(shapes: &[u32], anchors: &[f64], q: P, tol: f64) -> Found
 // Chord i as an answer.
 fn hit_chord(shapes: &[u32], anchors: &[f64], q: P, i: usize) -> HitSegment
     requires { (i < total shapes.now * 48) × (total shapes.now ≤ 512) × (total shapes.now * 6 ≤ length anchors.now) }
-    ensures { result ≡ segmentAnswer 48 shapes.now anchors.now q accepted (At i) }
+    ensures { result ≡ segment_answer 48 shapes.now anchors.now q accepted (At i) }
 {
     let k = i / 48;
     let at = locate(shapes, k);

@@ -34,20 +34,20 @@ first_word w [] h = absurd (omega arith)
 first_word w (x ∷ []) h = refl
 first_word w (x ∷ (y ∷ xs)) h = refl
 
-module _ (drawn : List Float) (count : ℕ) (target : List Float) (word : ℕ) (at_start : Bool) (toShapes : List ℕ) (to : List Float) where
-  pub join-refused : (c k : ℕ) → join_verdict drawn count target word at_start toShapes to ≡ refused c k
-      → (Refused c k ≡ join_answer drawn count target word at_start toShapes to)
-      × (toShapes ≡ join_shapes_left drawn count target word at_start toShapes to)
-      × (to ≡ join_anchors_left drawn count target word at_start toShapes to)
+module _ (drawn : List Float) (count : ℕ) (target : List Float) (word : ℕ) (at_start : Bool) (to_shapes : List ℕ) (to : List Float) where
+  pub join-refused : (c k : ℕ) → join_verdict drawn count target word at_start to_shapes to ≡ refused c k
+      → (Refused c k ≡ join_answer drawn count target word at_start to_shapes to)
+      × (to_shapes ≡ join_shapes_left drawn count target word at_start to_shapes to)
+      × (to ≡ join_anchors_left drawn count target word at_start to_shapes to)
   unfolding join_answer join_shapes_left join_anchors_left
   join-refused c k e = (outline-refused _ _ e, list_kept _ _ _ e, anchors_kept _ _ e)
 
   -- ---- 7
-  pub no_drawn : list_fits count drawn ≡ false → join_verdict drawn count target word at_start toShapes to ≡ refused 7 0
+  pub no_drawn : list_fits count drawn ≡ false → join_verdict drawn count target word at_start to_shapes to ≡ refused 7 0
   unfolding join_verdict
   no_drawn e = by_lists _ _ _ _ _ _ 0 (holds_false 0 (ap (λ b. b && list_fits (count_of word) target) e))
 
-  pub no_target : list_fits (count_of word) target ≡ false → join_verdict drawn count target word at_start toShapes to ≡ refused 7 0
+  pub no_target : list_fits (count_of word) target ≡ false → join_verdict drawn count target word at_start to_shapes to ≡ refused 7 0
   unfolding join_verdict
   no_target e = by_lists _ _ _ _ _ _ 0 (holds_false 0 (ap (λ b. list_fits count drawn && b) e ∙ and_false (list_fits count drawn)))
 
@@ -56,7 +56,7 @@ module _ (drawn : List Float) (count : ℕ) (target : List Float) (word : ℕ) (
     lists_pass = holds_true 0 (rw (fits count drawn few long, fits (count_of word) target few-t long-t))
 
     -- ---- 5
-    pub out_of_limit : (k : ℕ) → first_bad (either_in drawn count target) (count + count_of word) ≡ At k → join_verdict drawn count target word at_start toShapes to ≡ refused 5 k
+    pub out_of_limit : (k : ℕ) → first_bad (either_in drawn count target) (count + count_of word) ≡ At k → join_verdict drawn count target word at_start to_shapes to ≡ refused 5 k
     unfolding join_verdict
     out_of_limit k e =
         by_arguments _ _ _ _ _ _ lists_pass k (places_fail (either_in drawn count target) (count + count_of word) passes k ((first_is (either_in drawn count target) (count + count_of word) k).0 e))
@@ -66,7 +66,7 @@ module _ (drawn : List Float) (count : ℕ) (target : List Float) (word : ℕ) (
       arguments_pass = places_pass (either_in drawn count target) (count + count_of word) passes good
 
       -- ---- 6
-      pub empty_target : count_of word ≡ 0 → join_verdict drawn count target word at_start toShapes to ≡ refused 6 0
+      pub empty_target : count_of word ≡ 0 → join_verdict drawn count target word at_start to_shapes to ≡ refused 6 0
       unfolding join_verdict
       empty_target e = by_reference _ _ _ _ _ _ lists_pass arguments_pass 0 (holds_false 0 (le-ltb 0 (count_of word) (omega arith)))
 
@@ -79,7 +79,7 @@ module _ (drawn : List Float) (count : ℕ) (target : List Float) (word : ℕ) (
         all-of_them = length-joined drawn count target (count_of word) at_start some
 
         -- ---- 10
-        pub full : 512 < count - 1 + count_of word → join_verdict drawn count target word at_start toShapes to ≡ refused 10 0
+        pub full : 512 < count - 1 + count_of word → join_verdict drawn count target word at_start to_shapes to ≡ refused 10 0
         unfolding join_verdict
         full h =
             by_capacity _ _ _ _ _ _ lists_pass arguments_pass some_pass 0 (holds_false 0 (lt-leb (length (joined_path drawn count target word at_start)) 512 (let e = all-of_them in omega arith)))
@@ -98,7 +98,7 @@ module _ (drawn : List Float) (count : ℕ) (target : List Float) (word : ℕ) (
               places_fail _ _ passes (count - 1)
               (joint_out drawn count target (count_of word) at_start (drawn_good drawn count target (count_of word) good) (target_good drawn count target (count_of word) good) e)
 
-          pub joint_refused : anchor_good joint ≡ false → join_verdict drawn count target word at_start toShapes to ≡ refused 9 (count - 1)
+          pub joint_refused : anchor_good joint ≡ false → join_verdict drawn count target word at_start to_shapes to ≡ refused 9 (count - 1)
           unfolding join_verdict
           joint_refused e = by_result _ _ _ _ _ _ lists_pass arguments_pass some_pass capacity_pass (count - 1) (joint_fails e)
 
@@ -110,23 +110,23 @@ module _ (drawn : List Float) (count : ℕ) (target : List Float) (word : ℕ) (
                 (joint_in drawn count target (count_of word) at_start (drawn_good drawn count target (count_of word) good) (target_good drawn count target (count_of word) good) inside)
 
             -- ---- 8
-            no_room : room_for 1 (length (joined_path drawn count target word at_start)) toShapes to ≡ false → join_verdict drawn count target word at_start toShapes to ≡ refused 8 0
+            no_room : room_for 1 (length (joined_path drawn count target word at_start)) to_shapes to ≡ false → join_verdict drawn count target word at_start to_shapes to ≡ refused 8 0
             unfolding join_verdict
             no_room r = by_output _ _ _ _ _ _ lists_pass arguments_pass some_pass capacity_pass result_pass 0 (holds_false 0 r)
 
-            pub short_shapes : length toShapes < 1 → join_verdict drawn count target word at_start toShapes to ≡ refused 8 0
-            short_shapes l = no_room (few_words 1 (length (joined_path drawn count target word at_start)) toShapes to l)
+            pub short_shapes : length to_shapes < 1 → join_verdict drawn count target word at_start to_shapes to ≡ refused 8 0
+            short_shapes l = no_room (few_words 1 (length (joined_path drawn count target word at_start)) to_shapes to l)
 
-            pub short_anchors : length to < (count - 1 + count_of word) * 6 → join_verdict drawn count target word at_start toShapes to ≡ refused 8 0
-            short_anchors l = no_room (few_numbers 1 (length (joined_path drawn count target word at_start)) toShapes to (let n = all-of_them in omega arith))
+            pub short_anchors : length to < (count - 1 + count_of word) * 6 → join_verdict drawn count target word at_start to_shapes to ≡ refused 8 0
+            short_anchors l = no_room (few_numbers 1 (length (joined_path drawn count target word at_start)) to_shapes to (let n = all-of_them in omega arith))
 
             -- ---- accepted
-            module _ (l : 1 ≤ length toShapes) (m : (count - 1 + count_of word) * 6 ≤ length to) where
-              verdict_accepted : join_verdict drawn count target word at_start toShapes to ≡ accepted
+            module _ (l : 1 ≤ length to_shapes) (m : (count - 1 + count_of word) * 6 ≤ length to) where
+              verdict_accepted : join_verdict drawn count target word at_start to_shapes to ≡ accepted
               unfolding join_verdict
               verdict_accepted =
                   by_none _ _ _ _ _ _ lists_pass arguments_pass some_pass capacity_pass result_pass
-                  (holds_true 0 (room 1 (length (joined_path drawn count target word at_start)) toShapes to l (let n = all-of_them in omega arith)))
+                  (holds_true 0 (room 1 (length (joined_path drawn count target word at_start)) to_shapes to l (let n = all-of_them in omega arith)))
 
               made-is : (before n : ℕ) (j : Anchor) → before ≡ count - 1 → n ≡ count_of word → j ≡ joint
                   → tabulate before (anchor_at drawn) ++ (j ∷ target_rest target n at_start) ≡ joined_path drawn count target word at_start
@@ -134,14 +134,14 @@ module _ (drawn : List Float) (count : ℕ) (target : List Float) (word : ℕ) (
               made-is before n j e f g = rw (e, f, g)
 
               pub join_accepted : (before n w : ℕ) (j : Anchor) → before ≡ count - 1 → n ≡ count_of word → j ≡ joint → w ≡ word_of (before + n) false
-                  → (Accepted 1 (before + n) ≡ join_answer drawn count target word at_start toShapes to)
-                  × (set toShapes 0 w ≡ join_shapes_left drawn count target word at_start toShapes to)
-                  × (listed (tabulate before (anchor_at drawn) ++ (j ∷ target_rest target n at_start)) to ≡ join_anchors_left drawn count target word at_start toShapes to)
+                  → (Accepted 1 (before + n) ≡ join_answer drawn count target word at_start to_shapes to)
+                  × (set to_shapes 0 w ≡ join_shapes_left drawn count target word at_start to_shapes to)
+                  × (listed (tabulate before (anchor_at drawn) ++ (j ∷ target_rest target n at_start)) to ≡ join_anchors_left drawn count target word at_start to_shapes to)
               unfolding join_answer join_shapes_left join_anchors_left
               join_accepted before n w j e f g q =
                   let v = verdict_accepted in
                   let s : before + n ≡ length (joined_path drawn count target word at_start) = let c = all-of_them in omega arith in (
                     ap (Accepted 1) s ∙ outline_accepted _ _ v,
-                    ap (set toShapes 0) (q ∙ ap (λ i. word_of i false) s) ∙ first_word _ toShapes (omega arith) ∙ list_written _ _ _ v,
+                    ap (set to_shapes 0) (q ∙ ap (λ i. word_of i false) s) ∙ first_word _ to_shapes (omega arith) ∙ list_written _ _ _ v,
                     ap (λ ps. listed ps to) (made-is before n j e f g) ∙ anchors_written _ _ v,
                   )

@@ -22,7 +22,7 @@ unfoldable pub joined_path : List Float → ℕ → List Float → ℕ → Bool 
 joined_path drawn count target word at_start = joined_anchors drawn count target (count_of word) at_start
 
 unfoldable pub join_verdict : List Float → ℕ → List Float → ℕ → Bool → List ℕ → List Float → Verdict
-join_verdict drawn count target word at_start toShapes to =
+join_verdict drawn count target word at_start to_shapes to =
     let made = joined_path drawn count target word at_start in
     verdict
     (tests
@@ -31,17 +31,17 @@ join_verdict drawn count target word at_start toShapes to =
     (holds (ltb 0 (count_of word)) 0)
     (holds (leb (length made) 512) 0)
     (outline_limit made)
-    (holds (room_for 1 (length made) toShapes to) 0))
+    (holds (room_for 1 (length made) to_shapes to) 0))
 
 unfoldable pub join_answer : List Float → ℕ → List Float → ℕ → Bool → List ℕ → List Float → Outline
-join_answer drawn count target word at_start toShapes to =
-    outline_answer (join_verdict drawn count target word at_start toShapes to) 1 (length (joined_path drawn count target word at_start))
+join_answer drawn count target word at_start to_shapes to =
+    outline_answer (join_verdict drawn count target word at_start to_shapes to) 1 (length (joined_path drawn count target word at_start))
 
 -- one subpath, which is open
 unfoldable pub join_shapes_left : List Float → ℕ → List Float → ℕ → Bool → List ℕ → List Float → List ℕ
-join_shapes_left drawn count target word at_start toShapes to =
-    list_left (join_verdict drawn count target word at_start toShapes to) 1 (λ i. word_of (length (joined_path drawn count target word at_start)) false) toShapes
+join_shapes_left drawn count target word at_start to_shapes to =
+    list_left (join_verdict drawn count target word at_start to_shapes to) 1 (λ i. word_of (length (joined_path drawn count target word at_start)) false) to_shapes
 
 unfoldable pub join_anchors_left : List Float → ℕ → List Float → ℕ → Bool → List ℕ → List Float → List Float
-join_anchors_left drawn count target word at_start toShapes to =
-    anchors_left (join_verdict drawn count target word at_start toShapes to) (joined_path drawn count target word at_start) to
+join_anchors_left drawn count target word at_start to_shapes to =
+    anchors_left (join_verdict drawn count target word at_start to_shapes to) (joined_path drawn count target word at_start) to

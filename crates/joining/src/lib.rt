@@ -1,4 +1,6 @@
 // A path being drawn joined onto an end of another, after 000's `join`.
+#![tactic(auto)]
+
 mod anchors;
 mod calls;
 mod limits;

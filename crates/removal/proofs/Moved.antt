@@ -19,7 +19,7 @@ use Rattle.path.specs.Shape.{count_of, total, word_at, start}
 use Rattle.path.proofs.Shapes.{total-next, total_in, total-end}
 use Rattle.path.proofs.Puts.{put_next, put-listed}
 use Rattle.call.specs.declared.answers.Outline.TheVariants.{Accepted}
-use Rattle.removal.specs.Deleted.{retained, subpathLeft, subpathStays, wordLeft, wordsUpTo, anchorsUpTo, wordsKept, anchorsKept}
+use Rattle.removal.specs.Deleted.{retained, subpath_left, subpath_stays, word_left, words_up_to, anchors_up_to, kept_words, kept_anchors}
 use Rattle.removal.specs.Marks.{kept_at, kept_in}
 use Rattle.removal.proofs.Retained.{retained-count, retained_most, retained-same}
 
@@ -36,50 +36,50 @@ put_one xs ys k a b e f = e ∙ ap (put_anchor xs k) f
 -- ---- the words and anchors that are kept
 module _ (shapes : List ℕ) (anchors : List Float) (keep : ℕ → ℕ → Bool) where
   abbrev left : ℕ → List Anchor
-  left = subpathLeft shapes anchors keep
+  left = subpath_left shapes anchors keep
 
   abbrev words : ℕ → List ℕ
-  words = wordsUpTo shapes anchors keep
+  words = words_up_to shapes anchors keep
 
   abbrev kept : ℕ → List Anchor
-  kept = anchorsUpTo shapes anchors keep
+  kept = anchors_up_to shapes anchors keep
 
   pub left_most : (s : ℕ) → length (left s) ≤ count_of (word_at shapes s)
-  unfolding subpathLeft
+  unfolding subpath_left
   left_most s = retained_most (keep s) (λ k. anchor_at anchors (start shapes s + k)) (count_of (word_at shapes s))
 
-  module _ (s : ℕ) (e : subpathStays shapes anchors keep s ≡ true) where
-    words_stays : words (s + 1) ≡ words s ++ wordLeft shapes anchors keep s ∷ []
-    unfolding wordsUpTo
+  module _ (s : ℕ) (e : subpath_stays shapes anchors keep s ≡ true) where
+    words_stays : words (s + 1) ≡ words s ++ word_left shapes anchors keep s ∷ []
+    unfolding words_up_to
     words_stays = rw (add-one s, e)
 
     anchors_stays : kept (s + 1) ≡ kept s ++ left s
-    unfolding anchorsUpTo
+    unfolding anchors_up_to
     anchors_stays = rw (add-one s, e)
 
-  module _ (s : ℕ) (e : subpathStays shapes anchors keep s ≡ false) where
+  module _ (s : ℕ) (e : subpath_stays shapes anchors keep s ≡ false) where
     words_goes : words (s + 1) ≡ words s
-    unfolding wordsUpTo
+    unfolding words_up_to
     words_goes = rw (add-one s, e) (append-nil (words s))
 
     anchors_goes : kept (s + 1) ≡ kept s
-    unfolding anchorsUpTo
+    unfolding anchors_up_to
     anchors_goes = rw (add-one s, e) (append-nil (kept s))
 
   -- no more than there were
   pub words_most : (s : ℕ) → length (words s) ≤ s
-  unfolding wordsUpTo
+  unfolding words_up_to
   words_most zero = le_refl 0
-  words_most (suc s) = go (subpathStays shapes anchors keep s) (words_most s)
+  words_most (suc s) = go (subpath_stays shapes anchors keep s) (words_most s)
     where
-      go : (b : Bool) → length (words s) ≤ s → length (words s ++ cond b (wordLeft shapes anchors keep s ∷ []) []) ≤ suc s
-      go true h = omega (arith, length-append (words s) (wordLeft shapes anchors keep s ∷ []))
+      go : (b : Bool) → length (words s) ≤ s → length (words s ++ cond b (word_left shapes anchors keep s ∷ []) []) ≤ suc s
+      go true h = omega (arith, length-append (words s) (word_left shapes anchors keep s ∷ []))
       go false h = omega (arith, length-append (words s) [])
 
   pub anchors_most : (s : ℕ) → s ≤ length shapes → length (kept s) ≤ start shapes s
-  unfolding anchorsUpTo
+  unfolding anchors_up_to
   anchors_most zero l = le_refl 0
-  anchors_most (suc s) l = go (subpathStays shapes anchors keep s) (anchors_most s (omega arith)) (rw (add-one s) at (total-next shapes s l))
+  anchors_most (suc s) l = go (subpath_stays shapes anchors keep s) (anchors_most s (omega arith)) (rw (add-one s) at (total-next shapes s l))
     where
       go : (b : Bool) → length (kept s) ≤ start shapes s → start shapes (suc s) ≡ start shapes s + count_of (word_at shapes s)
           → length (kept s ++ cond b (left s) []) ≤ start shapes (suc s)
@@ -97,12 +97,12 @@ module _ (shapes : List ℕ) (anchors : List Float) (keep : ℕ → ℕ → Bool
     pub put : xs ≡ put_all anchors 0 (kept s)
 
   pub held_none : Held 0 shapes 0 anchors 0
-  unfolding wordsUpTo anchorsUpTo put_all
+  unfolding words_up_to anchors_up_to put_all
   held_none =
       record { same-words = refl; same_numbers = refl; words_count = refl; anchors_count = refl; front = λ j h. absurd (omega arith); rest = λ j h. refl; put = refl }
 
   module _ (s : ℕ) (ws : List ℕ) (n : ℕ) (xs : List Float) (at : ℕ) (h : Held s ws n xs at) where
-    pub held_goes : subpathStays shapes anchors keep s ≡ false → Held (s + 1) ws n xs at
+    pub held_goes : subpath_stays shapes anchors keep s ≡ false → Held (s + 1) ws n xs at
     held_goes e =
         record {
           same-words = h.same-words;
@@ -114,7 +114,7 @@ module _ (shapes : List ℕ) (anchors : List Float) (keep : ℕ → ℕ → Bool
           put = rw (anchors_goes s e) h.put;
         }
 
-    pub held_stays : subpathStays shapes anchors keep s ≡ true → n < length ws → (w m : ℕ) → w ≡ wordLeft shapes anchors keep s → m ≡ length (left s)
+    pub held_stays : subpath_stays shapes anchors keep s ≡ true → n < length ws → (w m : ℕ) → w ≡ word_left shapes anchors keep s → m ≡ length (left s)
         → (ys : List Float) → length ys ≡ length xs → ys ≡ put_all xs at (left s) → Held (s + 1) (set ws n w) (n + 1) ys (at + m)
     held_stays e room w m we me ys same put =
         let c = h.words_count in
@@ -122,12 +122,12 @@ module _ (shapes : List ℕ) (anchors : List Float) (keep : ℕ → ℕ → Bool
         record {
           same-words = length-set ws n w ∙ h.same-words;
           same_numbers = same ∙ h.same_numbers;
-          words_count = rw (words_stays s e) (omega (arith, length-append (words s) (wordLeft shapes anchors keep s ∷ [])));
+          words_count = rw (words_stays s e) (omega (arith, length-append (words s) (word_left shapes anchors keep s ∷ [])));
           anchors_count = rw (anchors_stays s e) (omega (arith, length-append (kept s) (left s)));
           front = rw (words_stays s e)
-              (fill_more 0 ws n w (word_at (words s ++ wordLeft shapes anchors keep s ∷ [])) room
-              (λ j l. h.front j l ∙ sym (get_or-append (words s) (wordLeft shapes anchors keep s ∷ []) 0 j (omega arith)))
-              (we ∙ sym (get_or_at (words s) (wordLeft shapes anchors keep s) [] 0 n (sym c))));
+              (fill_more 0 ws n w (word_at (words s ++ word_left shapes anchors keep s ∷ [])) room
+              (λ j l. h.front j l ∙ sym (get_or-append (words s) (word_left shapes anchors keep s ∷ []) 0 j (omega arith)))
+              (we ∙ sym (get_or_at (words s) (word_left shapes anchors keep s) [] 0 n (sym c))));
           rest = keep_more 0 ws n w shapes h.rest;
           put = rw (anchors_stays s e) (put_next anchors xs ys 0 at (kept s) (left s) (omega arith) h.put put);
         }
@@ -158,43 +158,43 @@ module _ (shapes : List ℕ) (anchors : List Float) (keep : ℕ → ℕ → Bool
 
   -- after all of them
   pub held_all : (ws : List ℕ) (n : ℕ) (xs : List Float) (at : ℕ) → total shapes * 6 ≤ length anchors → Held (length shapes) ws n xs at
-      → (Accepted n at ≡ Accepted (length (wordsKept shapes anchors keep)) (length (anchorsKept shapes anchors keep)))
-      × (ws ≡ overwrite (length (wordsKept shapes anchors keep)) (word_at (wordsKept shapes anchors keep)) shapes)
-      × (xs ≡ listed (anchorsKept shapes anchors keep) anchors)
-  unfolding wordsKept anchorsKept
+      → (Accepted n at ≡ Accepted (length (kept_words shapes anchors keep)) (length (kept_anchors shapes anchors keep)))
+      × (ws ≡ overwrite (length (kept_words shapes anchors keep)) (word_at (kept_words shapes anchors keep)) shapes)
+      × (xs ≡ listed (kept_anchors shapes anchors keep) anchors)
+  unfolding kept_words kept_anchors
   held_all ws n xs at long h =
       let m = length shapes in
       (ap₂ Accepted h.words_count h.anchors_count, held-words m ws n xs at h (le_refl m) long, held_anchors m ws n xs at h (le_refl m) long)
 
 -- ---- a subpath by its marks: what is counted, and what is moved, is what is left of it
 module _ (shapes : List ℕ) (anchors : List Float) (gone : List Bool) (s first m : ℕ) (e : first ≡ start shapes s) (f : m ≡ count_of (word_at shapes s)) where
-  pub left-count : count (λ k. kept_at gone (first + k)) m ≡ length (subpathLeft shapes anchors (kept_in shapes gone) s)
-  unfolding subpathLeft kept_in
+  pub left-count : count (λ k. kept_at gone (first + k)) m ≡ length (subpath_left shapes anchors (kept_in shapes gone) s)
+  unfolding subpath_left kept_in
   left-count = rw (e, f) (sym (retained-count (λ k. kept_at gone (start shapes s + k)) (λ k. anchor_at anchors (start shapes s + k)) (count_of (word_at shapes s))))
 
   pub left-moved : (xs : List Float) (at : ℕ) → at ≤ first → ((j : ℕ) → at * 6 ≤ j → entry xs j ≡ entry anchors j)
-      → retained (λ k. kept_at gone (first + k)) (λ k. anchor_at xs (first + k)) m ≡ subpathLeft shapes anchors (kept_in shapes gone) s
-  unfolding subpathLeft kept_in
+      → retained (λ k. kept_at gone (first + k)) (λ k. anchor_at xs (first + k)) m ≡ subpath_left shapes anchors (kept_in shapes gone) s
+  unfolding subpath_left kept_in
   left-moved xs at l past =
       retained-same _ _ _ (λ k. anchor_at anchors (first + k)) m (λ k b. refl) (λ k b. at_past xs anchors at (first + k) (omega arith) past) ∙ rw (e, f)
 
 -- ---- what is kept turns on the anchors of the path alone
 module _ (shapes : List ℕ) (anchors : List Float) (keep keep' : ℕ → ℕ → Bool)
     (alike : (s k : ℕ) → s < length shapes → k < count_of (word_at shapes s) → keep s k ≡ keep' s k) where
-  left-same : (s : ℕ) → s < length shapes → subpathLeft shapes anchors keep s ≡ subpathLeft shapes anchors keep' s
-  unfolding subpathLeft
+  left-same : (s : ℕ) → s < length shapes → subpath_left shapes anchors keep s ≡ subpath_left shapes anchors keep' s
+  unfolding subpath_left
   left-same s l = retained-same _ _ _ _ _ (λ k h. alike s k l h) (λ k h. refl)
 
-  words_same : (m : ℕ) → m ≤ length shapes → wordsUpTo shapes anchors keep m ≡ wordsUpTo shapes anchors keep' m
-  unfolding wordsUpTo subpathStays wordLeft
+  words_same : (m : ℕ) → m ≤ length shapes → words_up_to shapes anchors keep m ≡ words_up_to shapes anchors keep' m
+  unfolding words_up_to subpath_stays word_left
   words_same zero l = refl
   words_same (suc m) l = rw (words_same m (omega arith), left-same m l)
 
-  anchors_same : (m : ℕ) → m ≤ length shapes → anchorsUpTo shapes anchors keep m ≡ anchorsUpTo shapes anchors keep' m
-  unfolding anchorsUpTo subpathStays
+  anchors_same : (m : ℕ) → m ≤ length shapes → anchors_up_to shapes anchors keep m ≡ anchors_up_to shapes anchors keep' m
+  unfolding anchors_up_to subpath_stays
   anchors_same zero l = refl
   anchors_same (suc m) l = rw (anchors_same m (omega arith), left-same m l)
 
-  pub kept_same : (wordsKept shapes anchors keep ≡ wordsKept shapes anchors keep') × (anchorsKept shapes anchors keep ≡ anchorsKept shapes anchors keep')
-  unfolding wordsKept anchorsKept
+  pub kept_same : (kept_words shapes anchors keep ≡ kept_words shapes anchors keep') × (kept_anchors shapes anchors keep ≡ kept_anchors shapes anchors keep')
+  unfolding kept_words kept_anchors
   kept_same = (words_same (length shapes) (le_refl (length shapes)), anchors_same (length shapes) (le_refl (length shapes)))

@@ -17,7 +17,7 @@ use Rattle.call.specs.declared.opening.Opened.TheVariants as opened
 use Rattle.call.specs.Tests.{opened_path}
 use Rattle.call.proofs.Openings.{PathOpens, path_refused}
 use Rattle.call.proofs.Handings.{outline-refused, outline_accepted, list_kept, list_written, anchors_kept, anchors_written}
-use Rattle.removal.specs.Deleted.{whole_pairs, pairs, points_in, keeps, wordsKept, anchorsKept, deleted_words, deleted_anchors, delete_verdict, delete_answer, delete_shapes_left, delete_anchors_left}
+use Rattle.removal.specs.Deleted.{whole_pairs, pairs, points_in, keeps, kept_words, kept_anchors, deleted_words, deleted_anchors, delete_verdict, delete_answer, delete_shapes_left, delete_anchors_left}
 use Rattle.removal.specs.Marks.{kept_in, Marked}
 use Rattle.removal.proofs.Moved.{kept_same}
 
@@ -50,8 +50,8 @@ module _ (shapes : List ℕ) (anchors : List Float) (which : List ℕ) where
       known e = by_none _ _ _ _ _ _ (rw w o.lists_pass) (o.places_good true ∙ holds_true (total shapes) refl) (holds_true 0 e) refl refl refl
 
       pub delete_accepted : all (points_in shapes which) (pairs which) ≡ true → (gone : List Bool) → Marked shapes which (pairs which) gone →
-          let ws = wordsKept shapes anchors (kept_in shapes gone) in
-          let ps = anchorsKept shapes anchors (kept_in shapes gone) in
+          let ws = kept_words shapes anchors (kept_in shapes gone) in
+          let ps = kept_anchors shapes anchors (kept_in shapes gone) in
           (Accepted (length ws) (length ps) ≡ delete_answer shapes anchors which)
           × (overwrite (length ws) (word_at ws) shapes ≡ delete_shapes_left shapes anchors which)
           × (listed ps anchors ≡ delete_anchors_left shapes anchors which)

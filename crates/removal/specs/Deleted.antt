@@ -1,5 +1,5 @@
 -- `delete`: the anchors that references name go, then every subpath that has too few left, anywhere in the path. Assumes nothing.
-use Rattle.std.specs.Prelude.{ℕ, zero, suc, ◌+◌, ◌*◌, ◌/◌, ◌%◌, Bool, true, not, ◌&&◌, cond, List, [], ◌∷◌, ◌++◌, leb, ltb, eqb, length, get_or, Float}
+use Rattle.std.specs.Prelude.{ℕ, zero, suc, ◌+◌, ◌*◌, ◌/◌, ◌%◌, Bool, true, not, ◌&&◌, cond, List, [], ◌∷◌, ◌++◌, leb, eqb, length, get_or, Float}
 use Rattle.views.specs.Search.{all}
 use Rattle.refusal.specs.Order.{passes, holds, Verdict, verdict, tests}
 use Rattle.path.specs.declared.anchor.Anchor.{Anchor}
@@ -53,39 +53,39 @@ suffices closed n = leb (cond closed 3 2) n
 
 module _ (shapes : List ℕ) (anchors : List Float) (keep : ℕ → ℕ → Bool) where
   -- the anchors left of subpath s
-  unfoldable pub subpathLeft : ℕ → List Anchor
-  subpathLeft s = retained (keep s) (λ k. anchor_at anchors (start shapes s + k)) (count_of (word_at shapes s))
+  unfoldable pub subpath_left : ℕ → List Anchor
+  subpath_left s = retained (keep s) (λ k. anchor_at anchors (start shapes s + k)) (count_of (word_at shapes s))
 
-  unfoldable pub subpathStays : ℕ → Bool
-  subpathStays s = suffices (closed_of (word_at shapes s)) (length (subpathLeft s))
+  unfoldable pub subpath_stays : ℕ → Bool
+  subpath_stays s = suffices (closed_of (word_at shapes s)) (length (subpath_left s))
 
   -- its word
-  unfoldable pub wordLeft : ℕ → ℕ
-  wordLeft s = word_of (length (subpathLeft s)) (closed_of (word_at shapes s))
+  unfoldable pub word_left : ℕ → ℕ
+  word_left s = word_of (length (subpath_left s)) (closed_of (word_at shapes s))
 
   -- the words and the anchors of those of the first m subpaths that stay, one after the other
-  unfoldable pub wordsUpTo : ℕ → List ℕ
-  wordsUpTo zero = []
-  wordsUpTo (suc m) = wordsUpTo m ++ cond (subpathStays m) (wordLeft m ∷ []) []
+  unfoldable pub words_up_to : ℕ → List ℕ
+  words_up_to zero = []
+  words_up_to (suc m) = words_up_to m ++ cond (subpath_stays m) (word_left m ∷ []) []
 
-  unfoldable pub anchorsUpTo : ℕ → List Anchor
-  anchorsUpTo zero = []
-  anchorsUpTo (suc m) = anchorsUpTo m ++ cond (subpathStays m) (subpathLeft m) []
+  unfoldable pub anchors_up_to : ℕ → List Anchor
+  anchors_up_to zero = []
+  anchors_up_to (suc m) = anchors_up_to m ++ cond (subpath_stays m) (subpath_left m) []
 
   -- of the path
-  unfoldable pub wordsKept : List ℕ
-  wordsKept = wordsUpTo (length shapes)
+  unfoldable pub kept_words : List ℕ
+  kept_words = words_up_to (length shapes)
 
-  unfoldable pub anchorsKept : List Anchor
-  anchorsKept = anchorsUpTo (length shapes)
+  unfoldable pub kept_anchors : List Anchor
+  kept_anchors = anchors_up_to (length shapes)
 
 -- ---- the call
 
 unfoldable pub deleted_words : List ℕ → List Float → List ℕ → List ℕ
-deleted_words shapes anchors which = wordsKept shapes anchors (keeps which)
+deleted_words shapes anchors which = kept_words shapes anchors (keeps which)
 
 unfoldable pub deleted_anchors : List ℕ → List Float → List ℕ → List Anchor
-deleted_anchors shapes anchors which = anchorsKept shapes anchors (keeps which)
+deleted_anchors shapes anchors which = kept_anchors shapes anchors (keeps which)
 
 -- the result has no other numbers than the path and is no longer, so 10, 9 and 8 are not met
 unfoldable pub delete_verdict : List ℕ → List Float → List ℕ → Verdict

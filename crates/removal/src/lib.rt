@@ -1,4 +1,6 @@
 // `delete`, after 000: anchors that references name go, and every subpath that has too few left.
+#![tactic(auto)]
+
 mod deletion;
 mod marking;
 mod moving;

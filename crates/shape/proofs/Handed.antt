@@ -7,7 +7,7 @@ use native.Mathlib.Omega.{arith}
 use lib.ListN.{length, get_or}
 use lib.Ieee.{Float}
 use Rattle.views.proofs.Laws.{overwrite_cong}
-use Rattle.refusal.specs.Order.{passes, holds, judge, first_failing, Verdict, accepted, refused, verdict, tests}
+use Rattle.refusal.specs.Order.{holds, judge, first_failing, Verdict, accepted, refused, verdict, tests}
 use Rattle.refusal.proofs.Verdicts.{holds_false, by_arguments}
 use Rattle.path.specs.declared.anchor.Anchor.{Anchor}
 use Rattle.path.specs.Shape.{total, word_of}
@@ -25,19 +25,19 @@ unfolding word_of
 total_one n true h = omega arith
 total_one n false h = omega arith
 
-module _ (given : Bool) (ps : List Anchor) (closed : Bool) (toShapes : List ℕ) (to : List Float) where
+module _ (given : Bool) (ps : List Anchor) (closed : Bool) (to_shapes : List ℕ) (to : List Float) where
   -- an argument beyond the limit
-  arguments_refused : given ≡ false → shape_verdict given ps toShapes to ≡ refused 5 0
+  arguments_refused : given ≡ false → shape_verdict given ps to_shapes to ≡ refused 5 0
   unfolding shape_verdict
   arguments_refused g = by_arguments _ _ _ _ _ _ refl 0 (holds_false 0 g)
 
   pub shape_refused : given ≡ false
-      → (Refused 5 0 ≡ shape_answer given ps toShapes to) × (toShapes ≡ shape_word given ps closed toShapes to) × (to ≡ shape_numbers given ps toShapes to)
+      → (Refused 5 0 ≡ shape_answer given ps to_shapes to) × (to_shapes ≡ shape_word given ps closed to_shapes to) × (to ≡ shape_numbers given ps to_shapes to)
   unfolding shape_answer shape_word shape_numbers
   shape_refused g = let v = arguments_refused g in (outline-refused _ _ v, list_kept _ _ _ v, anchors_kept _ _ v)
 
   -- none: 9 and 8 are left
-  arguments_pass : given ≡ true → shape_verdict given ps toShapes to ≡ judge (outline_limit ps) 9 (judge (holds (room_for 1 (length ps) toShapes to) 0) 8 accepted)
+  arguments_pass : given ≡ true → shape_verdict given ps to_shapes to ≡ judge (outline_limit ps) 9 (judge (holds (room_for 1 (length ps) to_shapes to) 0) 8 accepted)
   unfolding shape_verdict verdict first_failing tests judge holds
   arguments_pass g = rw g
 
@@ -54,24 +54,24 @@ module _ (given : Bool) (ps : List Anchor) (closed : Bool) (toShapes : List ℕ)
     all-of_them : total words ≡ length ps
     all-of_them = total_one n closed few ∙ sym count
 
-    same-verdict : handed_verdict words made toShapes to ≡ shape_verdict given ps toShapes to
-    same-verdict = listed-verdict ps xs room words made toShapes to laid all-of_them ∙ sym (arguments_pass g)
+    same-verdict : handed_verdict words made to_shapes to ≡ shape_verdict given ps to_shapes to
+    same-verdict = listed-verdict ps xs room words made to_shapes to laid all-of_them ∙ sym (arguments_pass g)
 
-    the_word : (v : Verdict) → list_left v 1 (λ i. get_or words i 0) toShapes ≡ list_left v 1 (λ i. word_of (length ps) closed) toShapes
+    the_word : (v : Verdict) → list_left v 1 (λ i. get_or words i 0) to_shapes ≡ list_left v 1 (λ i. word_of (length ps) closed) to_shapes
     unfolding list_left
     the_word (refused c k) = refl
-    the_word accepted = overwrite_cong _ _ _ toShapes first
+    the_word accepted = overwrite_cong _ _ _ to_shapes first
       where
         first : (i : ℕ) → i < 1 → get_or words i 0 ≡ word_of (length ps) closed
         first zero l = ap (λ m. word_of m closed) (sym count)
         first (suc i) l = absurd (omega arith)
 
-    pub shape_handed : (handed_answer words made toShapes to ≡ shape_answer given ps toShapes to)
-        × (handed_shapes words made toShapes to ≡ shape_word given ps closed toShapes to)
-        × (handed_anchors words made toShapes to ≡ shape_numbers given ps toShapes to)
+    pub shape_handed : (handed_answer words made to_shapes to ≡ shape_answer given ps to_shapes to)
+        × (handed_shapes words made to_shapes to ≡ shape_word given ps closed to_shapes to)
+        × (handed_anchors words made to_shapes to ≡ shape_numbers given ps to_shapes to)
     unfolding handed_answer handed_shapes shape_answer shape_word shape_numbers
     shape_handed = (
-      ap (λ v. outline_answer v 1 (total words)) same-verdict ∙ ap (outline_answer (shape_verdict given ps toShapes to) 1) all-of_them,
-      ap (λ v. list_left v 1 (λ i. get_or words i 0) toShapes) same-verdict ∙ the_word (shape_verdict given ps toShapes to),
-      listed_anchors ps xs room words made toShapes to laid all-of_them ∙ ap (λ v. anchors_left v ps to) same-verdict,
+      ap (λ v. outline_answer v 1 (total words)) same-verdict ∙ ap (outline_answer (shape_verdict given ps to_shapes to) 1) all-of_them,
+      ap (λ v. list_left v 1 (λ i. get_or words i 0) to_shapes) same-verdict ∙ the_word (shape_verdict given ps to_shapes to),
+      listed_anchors ps xs room words made to_shapes to laid all-of_them ∙ ap (λ v. anchors_left v ps to) same-verdict,
     )

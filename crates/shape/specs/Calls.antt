@@ -16,14 +16,14 @@ pair_in a b = point_in a && point_in b
 
 -- ---- one subpath of the anchors ps, where `given` says that the arguments are within the limit
 unfoldable pub shape_verdict : Bool → List Anchor → List ℕ → List Float → Verdict
-shape_verdict given ps toShapes to =
-    verdict (tests passes (holds given 0) passes passes (outline_limit ps) (holds (room_for 1 (length ps) toShapes to) 0))
+shape_verdict given ps to_shapes to =
+    verdict (tests passes (holds given 0) passes passes (outline_limit ps) (holds (room_for 1 (length ps) to_shapes to) 0))
 
 unfoldable pub shape_answer : Bool → List Anchor → List ℕ → List Float → Outline
-shape_answer given ps toShapes to = outline_answer (shape_verdict given ps toShapes to) 1 (length ps)
+shape_answer given ps to_shapes to = outline_answer (shape_verdict given ps to_shapes to) 1 (length ps)
 
 unfoldable pub shape_word : Bool → List Anchor → Bool → List ℕ → List Float → List ℕ
-shape_word given ps closed toShapes to = list_left (shape_verdict given ps toShapes to) 1 (λ i. word_of (length ps) closed) toShapes
+shape_word given ps closed to_shapes to = list_left (shape_verdict given ps to_shapes to) 1 (λ i. word_of (length ps) closed) to_shapes
 
 unfoldable pub shape_numbers : Bool → List Anchor → List ℕ → List Float → List Float
-shape_numbers given ps toShapes to = anchors_left (shape_verdict given ps toShapes to) ps to
+shape_numbers given ps to_shapes to = anchors_left (shape_verdict given ps to_shapes to) ps to

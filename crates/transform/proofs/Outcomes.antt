@@ -6,9 +6,9 @@ use Prim.Native.Nat.{ℕ, ◌*◌, ◌≤◌}
 use native.Mathlib.Omega.{arith}
 use lib.ListN.{length, get_or}
 use lib.Ieee.{Float}
-use Rattle.views.specs.View.{overwrite, tabulate}
+use Rattle.views.specs.View.{overwrite}
 use Rattle.views.proofs.Laws.{length-tabulate}
-use Rattle.refusal.specs.Order.{passes, holds, judge, Verdict, accepted, refused}
+use Rattle.refusal.specs.Order.{passes, holds, judge, accepted, refused}
 use Rattle.refusal.proofs.Verdicts.{holds_true, holds_false, in_order, by_arguments}
 use Rattle.path.specs.Shape.{total}
 use Rattle.path.specs.Flat.{anchor_numbers, listed}
@@ -22,42 +22,42 @@ use Rattle.transform.specs.Mapped.{mapped_at, mapped_path, map_in}
 use Rattle.transform.specs.Call.{transform_verdict, transform_answer, transform_shapes, transform_anchors}
 use Rattle.transform.proofs.Laid.{listed_table}
 
-module _ (shapes : List ℕ) (anchors m : List Float) (toShapes : List ℕ) (to : List Float) where
-  pub refused_so : (c k : ℕ) → transform_verdict shapes anchors m toShapes to ≡ refused c k
-      → (Refused c k ≡ transform_answer shapes anchors m toShapes to) × (toShapes ≡ transform_shapes shapes anchors m toShapes to) × (to ≡ transform_anchors shapes anchors m toShapes to)
+module _ (shapes : List ℕ) (anchors m : List Float) (to_shapes : List ℕ) (to : List Float) where
+  pub refused_so : (c k : ℕ) → transform_verdict shapes anchors m to_shapes to ≡ refused c k
+      → (Refused c k ≡ transform_answer shapes anchors m to_shapes to) × (to_shapes ≡ transform_shapes shapes anchors m to_shapes to) × (to ≡ transform_anchors shapes anchors m to_shapes to)
   unfolding transform_answer transform_shapes transform_anchors
   refused_so c k v = (outline-refused _ _ v, list_kept _ _ _ v, anchors_kept _ _ v)
 
-  pub path_fails : (c k : ℕ) → opened_path 512 shapes anchors ≡ opened.Refused c k → transform_verdict shapes anchors m toShapes to ≡ refused c k
+  pub path_fails : (c k : ℕ) → opened_path 512 shapes anchors ≡ opened.Refused c k → transform_verdict shapes anchors m to_shapes to ≡ refused c k
   unfolding transform_verdict
   path_fails c k e = in_order _ _ _ _ _ _ ∙ path_refused 512 shapes anchors c k e (map_in m) _
 
   module _ (n : ℕ) (o : PathOpens 512 shapes anchors n) where
-    pub map_fails : map_in m ≡ false → transform_verdict shapes anchors m toShapes to ≡ refused 5 n
+    pub map_fails : map_in m ≡ false → transform_verdict shapes anchors m to_shapes to ≡ refused 5 n
     unfolding transform_verdict
     map_fails e = rw o.count (by_arguments _ _ _ _ _ _ o.lists_pass (total shapes) (o.places_good (map_in m) ∙ holds_false (total shapes) e))
 
     module _ (e : map_in m ≡ true) where
       -- 9 and 8 are left
-      passes_on : transform_verdict shapes anchors m toShapes to
-          ≡ judge (outline_limit (mapped_path m shapes anchors)) 9 (judge (holds (room_for (length shapes) (total shapes) toShapes to) 0) 8 accepted)
+      passes_on : transform_verdict shapes anchors m to_shapes to
+          ≡ judge (outline_limit (mapped_path m shapes anchors)) 9 (judge (holds (room_for (length shapes) (total shapes) to_shapes to) 0) 8 accepted)
       unfolding transform_verdict judge
       passes_on = in_order _ _ _ _ _ _ ∙ rw (o.lists_pass, o.places_good (map_in m), holds_true (total shapes) e)
 
       -- where 9 is known to pass, 8 alone is left
       module _ (p9 : outline_limit (mapped_path m shapes anchors) ≡ passes) where
-        pub no_room : room_for (length shapes) (total shapes) toShapes to ≡ false → transform_verdict shapes anchors m toShapes to ≡ refused 8 0
+        pub no_room : room_for (length shapes) (total shapes) to_shapes to ≡ false → transform_verdict shapes anchors m to_shapes to ≡ refused 8 0
         unfolding judge
         no_room r = passes_on ∙ rw (p9, holds_false 0 r)
 
-        room-left : room_for (length shapes) (total shapes) toShapes to ≡ true → transform_verdict shapes anchors m toShapes to ≡ accepted
+        room-left : room_for (length shapes) (total shapes) to_shapes to ≡ true → transform_verdict shapes anchors m to_shapes to ≡ accepted
         unfolding judge
         room-left r = passes_on ∙ rw (p9, holds_true 0 r)
 
-        pub written : room_for (length shapes) (total shapes) toShapes to ≡ true
-            → (Accepted (length shapes) (total shapes) ≡ transform_answer shapes anchors m toShapes to)
-            × (overwrite (length shapes) (λ i. get_or shapes i 0) toShapes ≡ transform_shapes shapes anchors m toShapes to)
-            × (overwrite (total shapes * 6) (anchor_numbers (mapped_at m anchors)) to ≡ transform_anchors shapes anchors m toShapes to)
+        pub written : room_for (length shapes) (total shapes) to_shapes to ≡ true
+            → (Accepted (length shapes) (total shapes) ≡ transform_answer shapes anchors m to_shapes to)
+            × (overwrite (length shapes) (λ i. get_or shapes i 0) to_shapes ≡ transform_shapes shapes anchors m to_shapes to)
+            × (overwrite (total shapes * 6) (anchor_numbers (mapped_at m anchors)) to ≡ transform_anchors shapes anchors m to_shapes to)
         unfolding transform_answer transform_shapes transform_anchors mapped_path
         written r =
             let v = room-left r in (
@@ -78,19 +78,19 @@ module _ (shapes : List ℕ) (anchors m : List Float) (toShapes : List ℕ) (to 
         unfolding mapped_path
         laid = w ∙ rw o.count (listed_table (total shapes) (mapped_at m anchors) xs)
 
-        same-verdict : handed_verdict shapes made toShapes to ≡ transform_verdict shapes anchors m toShapes to
+        same-verdict : handed_verdict shapes made to_shapes to ≡ transform_verdict shapes anchors m to_shapes to
         same-verdict =
-            listed-verdict (mapped_path m shapes anchors) xs long shapes made toShapes to laid (sym count)
-            ∙ ap (λ k. judge (outline_limit (mapped_path m shapes anchors)) 9 (judge (holds (room_for (length shapes) k toShapes to) 0) 8 accepted)) count
+            listed-verdict (mapped_path m shapes anchors) xs long shapes made to_shapes to laid (sym count)
+            ∙ ap (λ k. judge (outline_limit (mapped_path m shapes anchors)) 9 (judge (holds (room_for (length shapes) k to_shapes to) 0) 8 accepted)) count
             ∙ sym passes_on
 
-        pub handed : (handed_answer shapes made toShapes to ≡ transform_answer shapes anchors m toShapes to)
-            × (handed_shapes shapes made toShapes to ≡ transform_shapes shapes anchors m toShapes to)
-            × (handed_anchors shapes made toShapes to ≡ transform_anchors shapes anchors m toShapes to)
+        pub handed : (handed_answer shapes made to_shapes to ≡ transform_answer shapes anchors m to_shapes to)
+            × (handed_shapes shapes made to_shapes to ≡ transform_shapes shapes anchors m to_shapes to)
+            × (handed_anchors shapes made to_shapes to ≡ transform_anchors shapes anchors m to_shapes to)
         unfolding handed_answer handed_shapes transform_answer transform_shapes transform_anchors
         handed = (
           ap (λ v. outline_answer v (length shapes) (total shapes)) same-verdict,
-          ap (λ v. list_left v (length shapes) (λ i. get_or shapes i 0) toShapes) same-verdict,
-          listed_anchors (mapped_path m shapes anchors) xs long shapes made toShapes to laid (sym count)
+          ap (λ v. list_left v (length shapes) (λ i. get_or shapes i 0) to_shapes) same-verdict,
+          listed_anchors (mapped_path m shapes anchors) xs long shapes made to_shapes to laid (sym count)
               ∙ ap (λ v. anchors_left v (mapped_path m shapes anchors) to) same-verdict,
         )

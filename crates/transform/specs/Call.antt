@@ -8,7 +8,7 @@ use Rattle.call.specs.Answers.{outline_answer, list_left, anchors_left}
 use Rattle.transform.specs.Mapped.{mapped_path, map_in}
 
 unfoldable pub transform_verdict : List ℕ → List Float → List Float → List ℕ → List Float → Verdict
-transform_verdict shapes anchors m toShapes to =
+transform_verdict shapes anchors m to_shapes to =
     verdict
     (tests
     (holds (path_fits 512 shapes anchors) 0)
@@ -16,14 +16,14 @@ transform_verdict shapes anchors m toShapes to =
     passes
     passes
     (outline_limit (mapped_path m shapes anchors))
-    (holds (room_for (length shapes) (total shapes) toShapes to) 0))
+    (holds (room_for (length shapes) (total shapes) to_shapes to) 0))
 
 unfoldable pub transform_answer : List ℕ → List Float → List Float → List ℕ → List Float → Outline
-transform_answer shapes anchors m toShapes to = outline_answer (transform_verdict shapes anchors m toShapes to) (length shapes) (total shapes)
+transform_answer shapes anchors m to_shapes to = outline_answer (transform_verdict shapes anchors m to_shapes to) (length shapes) (total shapes)
 
 -- the shape words stay what they are
 unfoldable pub transform_shapes : List ℕ → List Float → List Float → List ℕ → List Float → List ℕ
-transform_shapes shapes anchors m toShapes to = list_left (transform_verdict shapes anchors m toShapes to) (length shapes) (λ i. get_or shapes i 0) toShapes
+transform_shapes shapes anchors m to_shapes to = list_left (transform_verdict shapes anchors m to_shapes to) (length shapes) (λ i. get_or shapes i 0) to_shapes
 
 unfoldable pub transform_anchors : List ℕ → List Float → List Float → List ℕ → List Float → List Float
-transform_anchors shapes anchors m toShapes to = anchors_left (transform_verdict shapes anchors m toShapes to) (mapped_path m shapes anchors) to
+transform_anchors shapes anchors m to_shapes to = anchors_left (transform_verdict shapes anchors m to_shapes to) (mapped_path m shapes anchors) to

@@ -5,7 +5,7 @@ use Rattle.bend.proofs.bending.bent_in.Tie as tie
 
 returns : tie.Need-returns
 unfolding bent_in
-returns c = rw (c.turned.ensures, c.before.stays-smooth.ensures, c.before.before.add.ensures)
+returns c = rw (c.turned.ensures, c.stays_smooth-turns.ensures, c.add-moved.ensures)
 
-pub bent-in-spec : {M : Type 1} → statement M
-bent-in-spec = tie.close (tie.spec (λ c κs. tt) (λ c κs. tt) (λ c κs. tt) returns)
+pub bent_in_spec : {M : Type 1} → statement M
+bent_in_spec = tie.close (tie.spec (λ c κs. tt) (λ c κs. tt) (λ c κs. tt) returns)

@@ -5,7 +5,7 @@ use Rattle.bend.proofs.bending.bent_out.Tie as tie
 
 returns : tie.Need-returns
 unfolding bent_out
-returns c = rw (c.turned.ensures, c.before.stays-smooth.ensures, c.before.before.add.ensures)
+returns c = rw (c.turned.ensures, c.stays_smooth-turns.ensures, c.add-moved.ensures)
 
-pub bent-out-spec : {M : Type 1} → statement M
-bent-out-spec = tie.close (tie.spec (λ c κs. tt) (λ c κs. tt) (λ c κs. tt) returns)
+pub bent_out_spec : {M : Type 1} → statement M
+bent_out_spec = tie.close (tie.spec (λ c κs. tt) (λ c κs. tt) (λ c κs. tt) returns)

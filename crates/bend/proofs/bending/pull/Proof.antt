@@ -5,7 +5,7 @@ use Rattle.bend.proofs.bending.pull.Tie as tie
 
 returns : tie.Need-returns
 unfolding pull
-returns c = rw (c.mul.ensures, c.before.clamp.ensures)
+returns c = rw (c.mul.ensures, c.clamp-s.ensures)
 
-pub pull-spec : {M : Type 1} → statement M
-pull-spec = tie.close (tie.spec (λ c κs. tt) (λ c κs. tt) returns)
+pub pull_spec : {M : Type 1} → statement M
+pull_spec = tie.close (tie.spec (λ c κs. tt) (λ c κs. tt) returns)

@@ -2,11 +2,11 @@
 use Rattle.bend.proofs.bending.stays_smooth.Statement.{statement}
 use Rattle.bend.proofs.bending.stays_smooth.Tie as tie
 
-returns : tie.Need-returns
-returns c = rw c.before.if1.true c.is-smooth.ensures
+returns : tie.Need-returns-then-keep
+returns c = rw c.if-keep.true c.is_smooth.ensures
 
-returns-2 : tie.Need-returns-2
-returns-2 c = rw c.if1.false
+returns-2 : tie.Need-returns-else-keep
+returns-2 c = rw c.if-keep.false
 
-pub stays-smooth-spec : {M : Type 1} → statement M
-stays-smooth-spec = tie.close (tie.spec (λ c κs. tt) returns returns-2)
+pub stays_smooth_spec : {M : Type 1} → statement M
+stays_smooth_spec = tie.close (tie.spec (λ c κs. tt) returns returns-2)

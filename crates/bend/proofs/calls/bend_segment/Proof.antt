@@ -1,10 +1,8 @@
 -- `bend::calls::bend_segment` meets its contract: each return cites what the tests before it found. Assumes nothing.
 use mathlib.Core.Path.{◌≡◌, sym, ap, ◌∙◌}
 use mathlib.Core.Bool.{true, false, ◌&&◌}
-use Prim.Native.Nat.{ℕ}
 use lib.ListN.{length}
 use borrow.Author.Rules.{rules}
-use borrow.Author.Tests.{not-true, not-false}
 use Rattle.real.specs.Limit.{in_limit}
 use Rattle.geom.specs.Point.{point_in}
 use Rattle.path.specs.Shape.{total}
@@ -17,59 +15,59 @@ use Rattle.bend.proofs.Outcomes.{path_fails, loose_fails, unknown, edit-rest}
 use Rattle.bend.proofs.calls.bend_segment.Statement.{statement}
 use Rattle.bend.proofs.calls.bend_segment.Tie as tie
 
-opens : (c : tie.After-opened2) → let a = c.before.before.before.before.before.before.args in PathOpens 512 a.shapes.now a.anchors.now c.opened2.given.0.0
-opens c = path_opens 512 _ _ _ (sym c.before.before.open-path.ensures ∙ c.opened2.given.1)
+opens : (c : tie.In-Anchors) → let a = c.args in PathOpens 512 a.shapes.now a.anchors.now c.in-Anchors.count
+opens c = path_opens 512 _ _ _ (sym c.open_path-opened.ensures ∙ c.in-Anchors.is)
 
 -- t, and then delta, is within the limit
-t-in : (c : tie.Else1) → in_limit c.before.before.before.before.before.before.before.before.before.args.t ≡ true
-t-in c = sym c.before.in_limit_lem.ensures ∙ not-false _ c.if1.false
+t-in : (c : tie.Else-not-in_limit) → in_limit c.args.t ≡ true
+t-in c = sym c.in_limit.ensures ∙ c.if-not-in_limit.false
 
-given : (c : tie.Else2) → let a = c.before.before.before.before.before.before.before.before.before.before.before.args in (in_limit a.t && point_in a.delta) ≡ true
-given c = rw (t-in c.before.before) (sym c.before.in-limit2.ensures ∙ not-false _ c.if2.false)
+given : (c : tie.Else-not-in_limit-2) → let a = c.args in (in_limit a.t && point_in a.delta) ≡ true
+given c = rw (t-in c.before.before) (sym c.in_limit-in-Anchors.ensures ∙ c.if-not-in_limit-2.false)
 
-returns : tie.Need-returns
+returns : tie.Need-returns-then-not-in_limit
 unfolding bend_answer bend_left bend_verdict
 returns c =
-    let a = c.before.before.before.before.before.before.before.before.before.args in
-    let t : in_limit a.t ≡ false = sym c.before.in_limit_lem.ensures ∙ not-true _ c.if1.true in
+    let a = c.args in
+    let t : in_limit a.t ≡ false = sym c.in_limit.ensures ∙ c.if-not-in_limit.true in
     let g : (in_limit a.t && point_in a.delta) ≡ false = rw t in
-    let v = loose_fails _ _ _ _ _ _ (opens c.before.before.before) g in
+    let v = loose_fails _ _ _ _ _ _ (opens c.before.before) g in
     (outline-refused _ _ v, anchors_kept _ _ v)
 
-returns-2 : tie.Need-returns-2
+returns-2 : tie.Need-returns-then-not-in_limit-2
 unfolding bend_answer bend_left bend_verdict
 returns-2 c =
-    let a = c.before.before.before.before.before.before.before.before.before.before.before.args in
-    let g : (in_limit a.t && point_in a.delta) ≡ false = rw (t-in c.before.before) (sym c.before.in-limit2.ensures ∙ not-true _ c.if2.true) in
-    let v = loose_fails _ _ _ _ _ _ (opens c.before.before.before.before.before) g in
+    let a = c.args in
+    let g : (in_limit a.t && point_in a.delta) ≡ false = rw (t-in c.before.before) (sym c.in_limit-in-Anchors.ensures ∙ c.if-not-in_limit-2.true) in
+    let v = loose_fails _ _ _ _ _ _ (opens c.before.before.before.before) g in
     (outline-refused _ _ v, anchors_kept _ _ v)
 
-returns-3 : tie.Need-returns-3
+returns-3 : tie.Need-returns-then-not-has_bend
 unfolding bend_answer bend_left bend_verdict
 returns-3 c =
-    let v = unknown _ _ _ _ _ _ (opens c.before.before.before.before.before.before.before) (given c.before.before) (sym c.before.has-bend.ensures ∙ not-true _ c.if3.true) in
+    let v = unknown _ _ _ _ _ _ (opens c.before.before.before.before.before.before) (given c.before.before) (sym c.has_bend.ensures ∙ c.if-not-has_bend.true) in
     (outline-refused _ _ v, anchors_kept _ _ v)
 
-bend-known-requires : tie.Need-bend-known-requires
+bend-known-requires : tie.Need-bend_known-requires
 bend-known-requires c κs =
-    let o = opens c.before.before.before.before.before.before.before.before.before in
-    (o.words, o.few, o.long, o.count, sym c.before.before.before.has-bend.ensures ∙ not-false _ c.before.before.if3.false, o.good)
+    let o = opens c.before.before.before.before.before.before.before.before in
+    (o.words, o.few, o.long, o.count, sym c.has_bend.ensures ∙ c.if-not-has_bend.false, o.good)
 
-returns-4 : tie.Need-returns-4
+returns-4 : tie.Need-returns-in-Refused
 unfolding bend_answer bend_left bend_verdict
 returns-4 c =
-    let v = path_fails _ _ _ _ _ _ _ (sym c.before.before.before.open-path.ensures ∙ c.before.opened.given.1) in
+    let v = path_fails _ _ _ _ _ _ _ (sym c.open_path-opened.ensures ∙ c.in-Refused.is) in
     (outline-refused _ _ v, anchors_kept _ _ v)
 
-returns-5 : tie.Need-returns-5
+returns-5 : tie.Need-returns-else-not-has_bend
 unfolding bend_answer bend_left bend_verdict
 returns-5 c =
-    let a = c.before.before.before.before.before.before.before.before.before.before.before.before.before.before.before.before.before.before.args in
-    let e = c.before.before.bend-known.ensures in
-    let q = c.before.before.before.pull.ensures in
+    let a = c.args in
+    let e = c.bend_known.ensures in
+    let q = c.pull.ensures in
     let v =
     edit-rest a.shapes.now a.anchors.now _ _ (bend_path a.shapes.now a.anchors.now a.s a.a (pull a.t a.delta) a.keep) _
-    (opens c.before.before.before.before.before.before.before.before.before.before.before.before) (given c.before.before.before.before.before.before.before) (sym c.before.before.before.before.before.before.has-bend.ensures ∙ not-false _ c.before.before.before.before.before.if3.false) in (
+    (opens c.before.before.before.before.before.before.before.before.before.before.before) (given c.before.before.before.before.before.before.before) (sym c.has_bend.ensures ∙ c.if-not-has_bend.false) in (
       e.0
           ∙ ap (λ z. outline_answer (last_verdict (bend_path a.shapes.now a.anchors.now a.s a.a z a.keep)) (length a.shapes.now) (total a.shapes.now)) q
           ∙ ap (λ z. outline_answer z (length a.shapes.now) (total a.shapes.now)) (sym v),
@@ -78,8 +76,8 @@ returns-5 c =
           ∙ ap (λ z. anchors_left z (bend_path a.shapes.now a.anchors.now a.s a.a (pull a.t a.delta) a.keep) a.anchors.now) (sym v),
     )
 
-pub bend-segment-spec : {M : Type 1} → statement M
-bend-segment-spec =
+pub bend_segment_spec : {M : Type 1} → statement M
+bend_segment_spec =
     tie.close
     (tie.spec
     (λ c κs. search rules)

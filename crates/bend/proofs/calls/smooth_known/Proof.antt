@@ -1,10 +1,9 @@
 -- `bend::calls::smooth_known` meets its contract: one anchor is put anew, or none. Assumes nothing.
 use mathlib.Core.Path.{◌≡◌, sym, ap, ◌∙◌}
-use Prim.Native.Nat.{ℕ, ◌+◌, ◌*◌, ◌≤◌, ◌<◌}
+use Prim.Native.Nat.{◌+◌, ◌*◌, ◌≤◌, ◌<◌}
 use native.Mathlib.Omega.{arith}
 use lib.ListN.{length}
 use borrow.Author.Rules.{rules}
-use borrow.Author.Tests.{not-true, not-false}
 use Rattle.path.specs.Shape.{count_of, closed_of, total, word_at, start}
 use Rattle.path.specs.Flat.{put_anchor}
 use Rattle.path.proofs.Shapes.{total_in}
@@ -19,66 +18,66 @@ use Rattle.bend.proofs.calls.smooth_known.Statement.{statement}
 use Rattle.bend.proofs.calls.smooth_known.Tie as tie
 
 -- the subpath's places are places of the path
-module _ (c : tie.After-start-of) where
-  sub_in : c.start_of_lem.result + c.before.before.before.before.count_of.result ≤ total c.before.before.before.before.before.before.before.before.args.shapes.now
+module _ (c : tie.After-start_of-first) where
+  sub_in : c.start_of-first.result + c.count_of-n.result ≤ total c.args.shapes.now
   sub_in =
-      let a = c.before.before.before.before.before.before.before.before.args in
-      let e = c.start_of_lem.ensures in
-      let n = c.before.before.before.before.count_of.ensures in
-      omega (arith, total_in a.shapes.now a.s c.before.before.before.before.before.before.before.before.requires.4)
+      let a = c.args in
+      let e = c.start_of-first.ensures in
+      let n = c.count_of-n.ensures in
+      omega (arith, total_in a.shapes.now a.s c.requires.4)
 
-  index_in : c.before.before.before.before.before.before.before.before.args.k < c.before.before.before.before.count_of.result
+  index_in : c.args.k < c.count_of-n.result
   index_in =
-      let n = c.before.before.before.before.count_of.ensures in
-      let l = c.before.before.before.before.before.before.before.before.requires.5 in
+      let n = c.count_of-n.ensures in
+      let l = c.requires.5 in
       omega arith
 
-  numbers_in_lem : (c.start_of_lem.result + c.before.before.before.before.count_of.result) * 6 ≤ length c.before.before.before.before.before.before.before.before.args.anchors.now
+  numbers_in_lem : (c.start_of-first.result + c.count_of-n.result) * 6 ≤ length c.args.anchors.now
   numbers_in_lem =
       let i = sub_in in
-      let l = c.before.before.before.before.before.before.before.before.requires.2 in
+      let l = c.requires.2 in
       omega arith
 
 -- the anchor that is put
-value : (c : tie.After-smoothed) → let a = c.before.before.before.before.before.before.before.before.before.before.before.before.before.before.before.args in
-    c.smoothed.result ≡ smoothed_at a.anchors.now (start a.shapes.now a.s) (count_of (word_at a.shapes.now a.s)) (closed_of (word_at a.shapes.now a.s)) a.k
+value : (c : tie.After-smoothed-a) → let a = c.args in
+    c.smoothed-a.result ≡ smoothed_at a.anchors.now (start a.shapes.now a.s) (count_of (word_at a.shapes.now a.s)) (closed_of (word_at a.shapes.now a.s)) a.k
 value c =
-    let a = c.before.before.before.before.before.before.before.before.before.before.before.before.before.before.before.args in
+    let a = c.args in
     made_of a.shapes.now a.s a.k a.anchors.now _ _ _ _ _ _ _
-    c.before.before.before.before.before.before.before.start_of_lem.ensures
-    c.before.before.before.before.before.before.before.before.before.before.before.count_of.ensures
-    c.before.before.before.before.before.before.before.before.Closed-of.ensures
-    c.before.before.before.before.before.point-before.ensures
-    c.before.before.before.point-after.ensures
-    c.before.anchor-at.ensures
-    c.smoothed.ensures
+    c.start_of-first.ensures
+    c.count_of-n.ensures
+    c.closed_of-closed.ensures
+    c.point_before-before.ensures
+    c.point_after-after.ensures
+    c.anchor_at.ensures
+    c.smoothed-a.ensures
 
-returns : tie.Need-returns
+returns : tie.Need-returns-then-n-lt2
 unfolding smooth_path
 returns c =
     let s = c.before.before.before.before.before in
     let a = s.args in
     let p = s.requires in
-    let n = c.before.count_of.ensures in
+    let n = c.count_of-n.ensures in
     let l : count_of (word_at a.shapes.now a.s) < 2 = omega arith in
     let kept = alone_kept a.shapes.now a.s a.k a.anchors.now l in
     let v = none_good _ _ _ p.6 p.2 kept in
     (ap (Accepted (length a.shapes.now)) p.3 ∙ outline_accepted _ _ v, none-put _ _ _ p.6 p.2 kept ∙ anchors_written _ _ v)
 
 -- what the laws of one anchor ask for
-module _ (c : tie.After-smoothed) where
+module _ (c : tie.After-smoothed-a) where
   abbrev s : tie.Start
-  s = c.before.before.before.before.before.before.before.before.before.before.before.before.before.before.before
+  s = c.before.before.before.before.before.before.before.before.before.before.before.before
 
   two : 2 ≤ count_of (word_at s.args.shapes.now s.args.s)
   two =
-      let n = c.before.before.before.before.before.before.before.before.before.before.before.count_of.ensures in
-      omega (arith, c.before.before.before.before.before.before.before.before.before.before.if1.false)
+      let n = c.count_of-n.ensures in
+      omega (arith, c.if-n-lt2.false)
 
   inside : start s.args.shapes.now s.args.s + s.args.k < total s.args.shapes.now
-  inside = place_inside _ _ _ s.pre.4 s.pre.5
+  inside = place_inside _ _ _ s.requires.4 s.requires.5
 
-returns-2 : tie.Need-returns-2
+returns-2 : tie.Need-returns-then-not-in_limit
 unfolding smooth_path
 returns-2 c =
     let m = c.before.before in
@@ -86,10 +85,10 @@ returns-2 c =
     let p = (s m).requires in
     let v =
     one_bad _ _ _ p.6 p.2 _ _ (inside m) (put_anew _ _ _ _ (two m)) (others_kept _ _ _ _)
-    (ap anchor_good (sym (value m)) ∙ sym c.before.in_limit_lem.ensures ∙ not-true _ c.if2.true) in
-    (ap (λ z. Refused 9 (z + a.k)) m.before.before.before.before.before.before.before.start_of_lem.ensures ∙ outline-refused _ _ v, anchors_kept _ _ v)
+    (ap anchor_good (sym (value m)) ∙ sym c.in_limit.ensures ∙ c.if-not-in_limit.true) in
+    (ap (λ z. Refused 9 (z + a.k)) c.start_of-first.ensures ∙ outline-refused _ _ v, anchors_kept _ _ v)
 
-returns-3 : tie.Need-returns-3
+returns-3 : tie.Need-returns
 unfolding smooth_path
 returns-3 c =
     let m = c.before.before.before.before.before.before in
@@ -97,18 +96,18 @@ returns-3 c =
     let p = (s m).requires in
     let v =
     one_good _ _ _ p.6 p.2 _ _ (inside m) (put_anew _ _ _ _ (two m)) (others_kept _ _ _ _)
-    (ap anchor_good (sym (value m)) ∙ sym c.before.before.before.before.before.in_limit_lem.ensures ∙ not-false _ c.before.before.before.before.if2.false) in
+    (ap anchor_good (sym (value m)) ∙ sym c.in_limit.ensures ∙ c.if-not-in_limit.false) in
     let put = one_put _ _ _ p.6 p.2 _ _ (inside m) (put_anew _ _ _ _ (two m)) (others_kept _ _ _ _) in (
       ap (Accepted (length a.shapes.now)) p.3 ∙ outline_accepted _ _ v,
-      c.before.before.put-anchor.ensures
-          ∙ ap (λ z. put_anchor a.anchors.now (z + a.k) m.smoothed.result) m.before.before.before.before.before.before.before.start_of_lem.ensures
+      c.put_anchor.ensures
+          ∙ ap (λ z. put_anchor a.anchors.now (z + a.k) m.smoothed-a.result) c.start_of-first.ensures
           ∙ ap (put_anchor a.anchors.now (start a.shapes.now a.s + a.k)) (value m)
           ∙ put
           ∙ anchors_written _ _ v,
     )
 
-pub smooth-known-spec : {M : Type 1} → statement M
-smooth-known-spec =
+pub smooth_known_spec : {M : Type 1} → statement M
+smooth_known_spec =
     tie.close
     (tie.spec
     (λ c. search rules)
@@ -119,14 +118,14 @@ smooth-known-spec =
     (λ c. search rules)
     (λ c κs. tt)
     (λ c κs. search rules)
+    (λ c κs. (index_in c, numbers_in_lem c))
     (λ c κs. (index_in c.before, numbers_in_lem c.before))
-    (λ c κs. (index_in c.before.before.before, numbers_in_lem c.before.before.before))
-    (λ c. let i = index_in c.before.before.before.before in let l = numbers_in_lem c.before.before.before.before in record { fits = omega arith })
-    (λ c κs. let i = index_in c.before.before.before.before.before in let l = numbers_in_lem c.before.before.before.before.before in omega arith)
+    (λ c. let i = index_in c.before.before in let l = numbers_in_lem c.before.before in record { fits = omega arith })
+    (λ c κs. let i = index_in c.before.before in let l = numbers_in_lem c.before.before in omega arith)
     (λ c κs. tt)
     (λ c κs. tt)
     (λ c. search rules)
     returns-2
-    (λ c κs. let i = index_in c.before.before.before.before.before.before.before.before.before.before in let l = numbers_in_lem c.before.before.before.before.before.before.before.before.before.before in omega arith)
+    (λ c κs. let i = index_in c.before.before.before.before.before.before.before in let l = numbers_in_lem c.before.before.before.before.before.before.before in omega arith)
     (λ c. search rules)
     returns-3)

@@ -5,17 +5,17 @@ use Rattle.bend.specs.Smoothed.{point_before}
 use Rattle.bend.proofs.neighbours.point_before.Statement.{statement}
 use Rattle.bend.proofs.neighbours.point_before.Tie as tie
 
-returns : tie.Need-returns
+returns : tie.Need-returns-then-k-gt0
 unfolding point_before
-returns c = rw (lt-ltb _ _ c.before.before.if1.true, c.before.anchor-at.ensures)
+returns c = rw (lt-ltb _ _ c.if-k-gt0.true, c.anchor_at-a.ensures)
 
-returns-2 : tie.Need-returns-2
+returns-2 : tie.Need-returns-then-closed
 unfolding point_before
-returns-2 c = rw (le-ltb _ _ c.before.before.before.if1.false, c.before.before.if2.true, c.before.anchor-at2.ensures)
+returns-2 c = rw (le-ltb _ _ c.if-k-gt0.false, c.if-closed.true, c.anchor_at-a-then-closed.ensures)
 
-returns-3 : tie.Need-returns-3
+returns-3 : tie.Need-returns
 unfolding point_before
-returns-3 c = rw (le-ltb _ _ c.before.if1.false, c.if2.false)
+returns-3 c = rw (le-ltb _ _ c.if-k-gt0.false, c.if-closed.false)
 
-pub point-before-spec : {M : Type 1} → statement M
-point-before-spec = tie.close (tie.spec (λ c. search rules) (λ c. search rules) (λ c κs. search rules) returns (λ c. search rules) (λ c. search rules) (λ c κs. search rules) returns-2 returns-3)
+pub point_before_spec : {M : Type 1} → statement M
+point_before_spec = tie.close (tie.spec (λ c. search rules) (λ c. search rules) (λ c κs. search rules) returns (λ c. search rules) (λ c. search rules) (λ c κs. search rules) returns-2 returns-3)

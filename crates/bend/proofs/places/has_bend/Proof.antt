@@ -7,17 +7,17 @@ use Rattle.bend.specs.Edits.{has_bend}
 use Rattle.bend.proofs.places.has_bend.Statement.{statement}
 use Rattle.bend.proofs.places.has_bend.Tie as tie
 
-returns : tie.Need-returns
+returns : tie.Need-returns-then-shapes-s
 unfolding has_bend
-returns c = let a = c.before.before.args in rw (le-ltb a.s (length a.shapes.now) (omega arith))
+returns c = let a = c.args in rw (le-ltb a.s (length a.shapes.now) (omega arith))
 
-returns-2 : tie.Need-returns-2
+returns-2 : tie.Need-returns-then-n-eq1
 unfolding has_bend
-returns-2 c = let a = c.before.before.before.before.before.args in rw (lt-ltb a.s (length a.shapes.now) (omega arith), ← c.before.count_of.ensures, eq-eqb c.before.count_of.result 1 c.if2.true)
+returns-2 c = let a = c.args in rw (lt-ltb a.s (length a.shapes.now) (omega arith), ← c.count_of-n.ensures, eq-eqb c.count_of-n.result 1 c.if-n-eq1.true)
 
-returns-3 : tie.Need-returns-3
+returns-3 : tie.Need-returns
 unfolding has_bend
-returns-3 c = let a = c.before.before.before.before.before.before.before.before.args in rw (lt-ltb a.s (length a.shapes.now) (omega arith), ← c.before.before.before.before.count_of.ensures, ne_eqb c.before.before.before.before.count_of.result 1 c.before.before.before.if2.false, ← c.before.Closed-of.ensures) c.has-segment.ensures
+returns-3 c = let a = c.args in rw (lt-ltb a.s (length a.shapes.now) (omega arith), ← c.count_of-n.ensures, ne_eqb c.count_of-n.result 1 c.if-n-eq1.false, ← c.closed_of.ensures) c.has_segment.ensures
 
-pub has-bend-spec : {M : Type 1} → statement M
-has-bend-spec = tie.close (tie.spec returns (λ c. search rules) (λ c. search rules) (λ c κs. tt) returns-2 (λ c. search rules) (λ c. search rules) (λ c κs. tt) (λ c κs. tt) returns-3)
+pub has_bend_spec : {M : Type 1} → statement M
+has_bend_spec = tie.close (tie.spec returns (λ c. search rules) (λ c. search rules) (λ c κs. tt) returns-2 (λ c. search rules) (λ c. search rules) (λ c κs. tt) (λ c κs. tt) returns-3)

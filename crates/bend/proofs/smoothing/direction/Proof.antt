@@ -4,21 +4,21 @@ use Rattle.bend.specs.Smoothed.{direction}
 use Rattle.bend.proofs.smoothing.direction.Statement.{statement}
 use Rattle.bend.proofs.smoothing.direction.Tie as tie
 
-returns : tie.Need-returns
+returns : tie.Need-returns-in-At-after
 unfolding direction
-returns c = rw (c.before.before.before.before.before.before2.given.1, c.before.before.after.given.1) c.sub.ensures
+returns c = rw (c.in-At.is, c.in-At-after.is) c.sub.ensures
 
-returns-2 : tie.Need-returns-2
+returns-2 : tie.Need-returns-in-Nothing-after
 unfolding direction
-returns-2 c = rw (c.before.before.before.before.before2.given.1, c.before.enum_told.given.1) c.sub2.ensures
+returns-2 c = rw (c.in-At.is, c.in-Nothing-after.is) c.sub-in-Nothing-after.ensures
 
-returns-3 : tie.Need-returns-3
+returns-3 : tie.Need-returns-in-At-after-2
 unfolding direction
-returns-3 c = rw (c.before.before.before.before.enum-told2.given.1, c.before.before.after2.given.1) c.sub3.ensures
+returns-3 c = rw (c.in-Nothing.is, c.in-At-after-2.is) c.sub-in-At-after-2.ensures
 
-returns-4 : tie.Need-returns-4
+returns-4 : tie.Need-returns-in-Nothing-after-2
 unfolding direction
-returns-4 c = rw (c.before.before.enum-told2.given.1, c.enum-told3.given.1)
+returns-4 c = rw (c.in-Nothing.is, c.in-Nothing-after-2.is)
 
-pub direction-spec : {M : Type 1} → statement M
-direction-spec = tie.close (tie.spec (λ c. search rules) (λ c. search rules) (λ c κs. tt) (λ c. search rules) (λ c κs. tt) (λ c. search rules) (λ c. search rules) (λ c κs. tt) (λ c. search rules) returns returns-2 returns-3 returns-4)
+pub direction_spec : {M : Type 1} → statement M
+direction_spec = tie.close (tie.spec (λ c. search rules) (λ c. search rules) (λ c κs. tt) (λ c. search rules) (λ c κs. tt) (λ c. search rules) (λ c. search rules) (λ c κs. tt) (λ c. search rules) returns returns-2 returns-3 returns-4)

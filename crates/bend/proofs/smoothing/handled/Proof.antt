@@ -5,7 +5,7 @@ use Rattle.bend.proofs.smoothing.handled.Tie as tie
 
 returns : tie.Need-returns
 unfolding handled
-returns c = rw (c.add.ensures, c.before.mul2.ensures, c.before.before.sub.ensures, c.before.before.before.mul.ensures)
+returns c = rw (c.add.ensures, c.mul-2.ensures, c.sub.ensures, c.mul.ensures)
 
-pub handled-spec : {M : Type 1} → statement M
-handled-spec = tie.close (tie.spec (λ c κs. tt) (λ c κs. tt) (λ c κs. tt) (λ c κs. tt) returns)
+pub handled_spec : {M : Type 1} → statement M
+handled_spec = tie.close (tie.spec (λ c κs. tt) (λ c κs. tt) (λ c κs. tt) (λ c κs. tt) returns)

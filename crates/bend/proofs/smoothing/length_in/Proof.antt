@@ -4,13 +4,13 @@ use Rattle.bend.specs.Smoothed.{length_in}
 use Rattle.bend.proofs.smoothing.length_in.Statement.{statement}
 use Rattle.bend.proofs.smoothing.length_in.Tie as tie
 
-returns : tie.Need-returns
+returns : tie.Need-returns-in-At
 unfolding length_in
-returns c = rw (c.before.before.before.before2.given.1, c.len.ensures, c.before.sub.ensures)
+returns c = rw (c.in-At.is, c.len.ensures, c.sub.ensures)
 
-returns-2 : tie.Need-returns-2
+returns-2 : tie.Need-returns-in-Nothing
 unfolding length_in
-returns-2 c = rw c.enum_told.given.1
+returns-2 c = rw c.in-Nothing.is
 
-pub length-in-spec : {M : Type 1} → statement M
-length-in-spec = tie.close (tie.spec (λ c. search rules) (λ c κs. tt) (λ c κs. tt) (λ c. search rules) returns returns-2)
+pub length_in_spec : {M : Type 1} → statement M
+length_in_spec = tie.close (tie.spec (λ c. search rules) (λ c κs. tt) (λ c κs. tt) (λ c. search rules) returns returns-2)

@@ -2,40 +2,38 @@
 use Prim.Native.Nat.{◌+◌, ◌-◌, ◌≤◌}
 use mathlib.Core.Path.{◌≡◌, refl}
 use native.Mathlib.Omega.{arith}
-use borrow.Author.Rules.{rules}
 use Rattle.views.specs.View.{tabulate}
-use Rattle.cubic.specs.Sample.{steps, step_at}
-use Rattle.cubic.proofs.StepCounts.{steps-small}
+use Rattle.cubic.specs.Sample.{step_at}
 use Rattle.bounds.specs.Points.{grown_by}
 use Rattle.bounds.proofs.Growths.{points_none, points_more, curve_done, sixteen}
 use Rattle.bounds.proofs.boxes.add_curve.Statement.{statement}
 use Rattle.bounds.proofs.boxes.add_curve.Tie as tie
 
-abbrev invariant-loop : tie.invariant-loop
+abbrev invariant-loop : tie.invariant-loop-k
 invariant-loop c r₀ m k₀ k-end r k = (k ≤ m + 1) × (k-end ≡ m + 1) × (m ≤ 16) × (r ≡ grown_by r₀ (tabulate k (step_at c m)))
 
-abbrev decreases-loop : tie.decreases-loop
+abbrev decreases-loop : tie.decreases-loop-k
 decreases-loop c r₀ m k₀ k-end r k = m + 1 - k
 
-few : (c : tie.After-steps invariant-loop decreases-loop) → c.steps.result ≤ 16
-few c = rw c.steps.ensures (sixteen _)
+few : (c : tie.After-steps-m invariant-loop decreases-loop) → c.steps-m.result ≤ 16
+few c = rw c.steps-m.ensures (sixteen _)
 
-loop-holds : tie.Need-loop-init invariant-loop decreases-loop
+loop-holds : tie.Need-loop-k-init invariant-loop decreases-loop
 loop-holds c = (omega arith, refl, few c, points_none _ _)
 
-loop-again : tie.Need-loop-preserved invariant-loop decreases-loop
+loop-again : tie.Need-loop-k-preserved invariant-loop decreases-loop
 loop-again c =
     let p = c.before in
-    let l = p.before.before.loop in
-    (omega arith, l.invariant.1, l.invariant.2, points_more _ _ _ _ l.k _ l.invariant.3 p.step-at.ensures c.step.ensures)
+    let l = p.loop-k in
+    (omega arith, l.invariant.1, l.invariant.2, points_more _ _ _ _ l.k _ l.invariant.3 p.step_at.ensures c.step-r.ensures)
 
 returns : tie.Need-returns invariant-loop decreases-loop
 returns c =
-    let l = c.before.loop in
-    curve_done _ _ _ _ l.k c.before.before.steps.ensures (omega arith) l.invariant.3
+    let l = c.loop-k in
+    curve_done _ _ _ _ l.k c.steps-m.ensures (omega arith) l.invariant.3
 
-pub add-curve-spec : {M : Type 1} → statement M
-add-curve-spec =
+pub add_curve_spec : {M : Type 1} → statement M
+add_curve_spec =
     tie.close
     (tie.spec
     invariant-loop

@@ -1,22 +1,21 @@
 -- `bounds::boxes::add_subpath` meets its contract. Assumes nothing.
-use mathlib.Core.Path.{◌≡◌, ap}
+use mathlib.Core.Path.{ap}
 use native.Mathlib.Omega.{arith}
-use borrow.Author.Rules.{rules}
 use Rattle.path.specs.declared.anchor.Anchor.{Anchor}
 use Rattle.bounds.proofs.Growths.{subpath-empty, subpath_more}
 use Rattle.bounds.proofs.boxes.add_subpath.Statement.{statement}
 use Rattle.bounds.proofs.boxes.add_subpath.Tie as tie
 
-returns : tie.Need-returns
-returns c = subpath-empty _ _ _ _ _ c.if1.true
+returns : tie.Need-returns-then-n-eq0
+returns c = subpath-empty _ _ _ _ _ c.if-n-eq0.true
 
-returns-2 : tie.Need-returns-2
+returns-2 : tie.Need-returns
 returns-2 c =
     let a = c.before in
-    subpath_more _ _ _ _ _ (omega arith) _ _ _ a.before.add-segments.ensures (ap (λ (o : Anchor). o.p) a.anchor-at.ensures) c.step.ensures
+    subpath_more _ _ _ _ _ (omega arith) _ _ _ a.add_segments-r.ensures (ap (λ (o : Anchor). o.p) a.anchor_at.ensures) c.step.ensures
 
-pub add-subpath-spec : {M : Type 1} → statement M
-add-subpath-spec =
+pub add_subpath_spec : {M : Type 1} → statement M
+add_subpath_spec =
     tie.close
     (tie.spec
     returns

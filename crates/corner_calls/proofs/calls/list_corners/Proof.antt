@@ -1,9 +1,8 @@
 -- `corner_calls::calls::list_corners` meets its contract: what the scratch lists hold is tested and copied. Assumes nothing.
-use mathlib.Core.Path.{◌≡◌, sym, ◌∙◌}
+use mathlib.Core.Path.{sym, ◌∙◌}
 use Prim.Native.Nat.{◌≤◌}
 use native.Mathlib.Omega.{arith}
 use borrow.Author.Rules.{rules}
-use borrow.Author.Tests.{not-true, not-false}
 use Rattle.path.specs.Shape.{total}
 use Rattle.corner_calls.specs.Corners.{path_corner, corner_places}
 use Rattle.corner_calls.proofs.Found.{found_most}
@@ -12,46 +11,34 @@ use Rattle.corner_calls.proofs.calls.list_corners.Statement.{statement}
 use Rattle.corner_calls.proofs.calls.list_corners.Tie as tie
 
 -- at most 512 corners
-few : (c : tie.After-find-corners) → c.find-corners.result ≤ 512
+few : (c : tie.After-find_corners-count) → c.find_corners-count.result ≤ 512
 few c =
-    let s = c.before.before.before.before.before.before.before in
-    omega (arith, c.find-corners.ensures.1.1.count, found_most (path_corner s.args.shapes.now s.args.anchors.now) (total s.args.shapes.now), s.requires)
+    omega (arith, c.find_corners-count.ensures.1.1.count, found_most (path_corner c.args.shapes.now c.args.anchors.now) (total c.args.shapes.now), c.requires)
 
-returns : tie.Need-returns
+returns : tie.Need-returns-then-not-all_in_limit
 unfolding corner_places
 returns c =
-    let t = c.before in
-    let f = t.before.before.before.before in
-    beyond_limit _ _ _ _ _ f.find-corners.ensures.1.1 _ _ (sym t.all-in-limit.ensures ∙ not-true _ c.if1.true)
+    beyond_limit _ _ _ _ _ c.find_corners-count.ensures.1.1 _ _ (sym c.all_in_limit.ensures ∙ c.if-not-all_in_limit.true)
 
-returns-2 : tie.Need-returns-2
+returns-2 : tie.Need-returns-then-places-count
 unfolding corner_places
 returns-2 c =
-    let e = c.before in
-    let t = e.before in
-    let f = t.before.before.before.before in
-    short-of-room _ _ _ _ _ f.find-corners.ensures.1.1 _ _ (sym t.all-in-limit.ensures ∙ not-false _ e.if1.false) (few_places _ _ _ (omega arith))
+    short-of-room _ _ _ _ _ c.find_corners-count.ensures.1.1 _ _ (sym c.all_in_limit.ensures ∙ c.if-not-all_in_limit.false) (few_places _ _ _ (omega arith))
 
-returns-3 : tie.Need-returns-3
+returns-3 : tie.Need-returns-then-numbers-count
 unfolding corner_places
 returns-3 c =
-    let e = c.before.before in
-    let t = e.before in
-    let f = t.before.before.before.before in
-    short-of-room _ _ _ _ _ f.find-corners.ensures.1.1 _ _ (sym t.all-in-limit.ensures ∙ not-false _ e.if1.false) (few_numbers _ _ _ (omega arith))
+    short-of-room _ _ _ _ _ c.find_corners-count.ensures.1.1 _ _ (sym c.all_in_limit.ensures ∙ c.if-not-all_in_limit.false) (few_numbers _ _ _ (omega arith))
 
-returns-4 : tie.Need-returns-4
+returns-4 : tie.Need-returns
 unfolding corner_places
 returns-4 c =
-    let e = c.before.before.before.before.before.before.before.before.before.before.before.before in
-    let t = e.before in
-    let f = t.before.before.before.before in
-    let a = f.before.before.before.before.before.before.before.args in
-    let r = copied _ _ _ _ f.find-corners.result f.find-corners.ensures.1.1 a.places.now a.numbers.now (sym t.all-in-limit.ensures ∙ not-false _ e.if1.false) (omega (arith, c.before.before.before.before.before.before.before.before.before.before.before.if2.false)) (omega (arith, c.before.before.before.before.before.before.before.before.before.before.if3.false)) in
-    (r.0, (c.before.before.before.before.before.before.before.copy-words.ensures ∙ r.1.0, c.before.before.copy.ensures ∙ r.1.1))
+    let a = c.args in
+    let r = copied _ _ _ _ c.find_corners-count.result c.find_corners-count.ensures.1.1 a.places.now a.numbers.now (sym c.all_in_limit.ensures ∙ c.if-not-all_in_limit.false) (omega (arith, c.if-places-count.false)) (omega (arith, c.if-numbers-count.false)) in
+    (r.0, (c.copy_words.ensures ∙ r.1.0, c.copy.ensures ∙ r.1.1))
 
-pub list-corners-spec : {M : Type 1} → statement M
-list-corners-spec =
+pub list_corners_spec : {M : Type 1} → statement M
+list_corners_spec =
     tie.close
     (tie.spec
     (λ c. search rules)

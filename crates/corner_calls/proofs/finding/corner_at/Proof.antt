@@ -7,7 +7,7 @@ use Rattle.corner_calls.proofs.finding.corner_at.Tie as tie
 
 returns : tie.Need-returns
 unfolding plain_view
-returns c = c.measured.ensures ∙ (c.before.corner-at.ensures _ _).is
+returns c = c.measured.ensures ∙ (c.corner_at.ensures _ _).is
 
-pub corner-at-spec : {M : Type 1} → statement M
-corner-at-spec = tie.close (tie.spec (λ c κs. search rules) (λ c κs. tt) returns)
+pub corner_at_spec : {M : Type 1} → statement M
+corner_at_spec = tie.close (tie.spec (λ c κs. search rules) (λ c κs. tt) returns)

@@ -4,97 +4,89 @@ use Prim.Native.Nat.{◌+◌, ◌-◌, ◌*◌, ◌≤◌, ◌<◌}
 use native.Mathlib.Nat.{add-zero}
 use native.Mathlib.Omega.{arith}
 use lib.ListN.{length, length-set}
-use lib.Seq.{length-sets}
 use borrow.Author.Rules.{rules}
 use borrow.Author.Tests.{not-true, not-false}
 use Rattle.path.specs.Shape.{total}
 use Rattle.path.proofs.Shapes.{total_in}
 use Rattle.cut.specs.Places.{corner_at}
 use Rattle.cut_calls.proofs.Laying.{sub_of_lem}
-use Rattle.corner_calls.specs.Corners.{plain_view, path_corner, put_corner, Holds}
+use Rattle.corner_calls.specs.Corners.{plain_view, path_corner, Holds}
 use Rattle.corner_calls.proofs.Found.{corner_in, found_most, length-put, holds_same, holds_more}
 use Rattle.corner_calls.proofs.finding.find_in_subpath.Statement.{statement}
 use Rattle.corner_calls.proofs.finding.find_in_subpath.Tie as tie
 
-abbrev invariant-loop : tie.invariant-loop
+abbrev invariant-loop : tie.invariant-loop-i
 invariant-loop shapes anchors s first found at₀ rows₀ n sub count₀ i₀ at rows count i =
     (i ≤ n) × (length at ≡ length at₀) × (length rows ≡ length rows₀) × Holds (path_corner shapes anchors) (first + i) at rows count
 
-abbrev decreases-loop : tie.decreases-loop
+abbrev decreases-loop : tie.decreases-loop-i
 decreases-loop shapes anchors s first found at₀ rows₀ n sub count₀ i₀ at rows count i = n - i
 
 -- the subpath's places are places of the path
-inside : (c : tie.In-loop invariant-loop decreases-loop) → let s = c.before.before.before.before.before.before.before.before.before.before in
-    s.args.first + c.before.before.before.before.count_of.result ≤ total s.args.shapes.now
+inside : (c : tie.In-loop-i invariant-loop decreases-loop) → let s = c.before.before.before.before.before.before.before.before.before.before in
+    c.args.first + c.count_of-n.result ≤ total c.args.shapes.now
 inside c =
     let s = c.before.before.before.before.before.before.before.before.before.before in
-    omega (arith, total_in s.args.shapes.now s.args.s s.requires.0.0, c.before.before.before.before.count_of.ensures, s.requires.0.1)
+    omega (arith, total_in c.args.shapes.now c.args.s c.requires.0.0, c.count_of-n.ensures, c.requires.0.1)
 
 -- no more corners than places
-few : (c : tie.In-loop invariant-loop decreases-loop) → let s = c.before.before.before.before.before.before.before.before.before.before in
-    c.before.loop.count ≤ s.args.first + c.before.loop.i
+few : (c : tie.In-loop-i invariant-loop decreases-loop) → let s = c.before.before.before.before.before.before.before.before.before.before in
+    c.loop-i.count ≤ c.args.first + c.loop-i.i
 few c =
-    let s = c.before.before.before.before.before.before.before.before.before.before in
-    let l = c.before.loop in
-    omega (arith, l.invariant.3.count, found_most (path_corner s.args.shapes.now s.args.anchors.now) (s.args.first + l.i))
+    let l = c.loop-i in
+    omega (arith, l.invariant.3.count, found_most (path_corner c.args.shapes.now c.args.anchors.now) (c.args.first + l.i))
 
 -- so there is room for one more
-room : (c : tie.In-loop invariant-loop decreases-loop) → (c.before.loop.count < length c.before.loop.at) × (c.before.loop.count * 9 + 9 ≤ length c.before.loop.rows)
+room : (c : tie.In-loop-i invariant-loop decreases-loop) → (c.loop-i.count < length c.loop-i.at) × (c.loop-i.count * 9 + 9 ≤ length c.loop-i.rows)
 room c =
-    let s = c.before.before.before.before.before.before.before.before.before.before in
-    let l = c.before.loop in
+    let l = c.loop-i in
     let w = inside c in
     let f = few c in
-    (omega (arith, s.requires.0, s.requires.1.0, l.invariant.1), omega (arith, s.requires.0, s.requires.1.0, l.invariant.2))
+    (omega (arith, c.requires.0, c.requires.1.0, l.invariant.1), omega (arith, c.requires.0, c.requires.1.0, l.invariant.2))
 
 -- the corner at hand is the path's
-corner-is : (c : tie.After-corner-at invariant-loop decreases-loop) → let s = c.before.before.before.before.before.before.before.before.before.before.before in
-    path_corner s.args.shapes.now s.args.anchors.now (s.args.first + c.before.before.loop.i) ≡ c.corner-at.result
+corner-is : (c : tie.After-corner_at-c invariant-loop decreases-loop) → let s = c.before.before.before.before.before.before.before.before.before.before.before in
+    path_corner c.args.shapes.now c.args.anchors.now (c.args.first + c.loop-i.i) ≡ c.corner_at-c.result
 corner-is c =
-    let h = c.before.before in
     let s = c.before.before.before.before.before.before.before.before.before.before.before in
-    let a = s.args in
-    let n = c.before.before.before.before.before.count_of.ensures in
-    let sub = sub_of_lem a.shapes.now a.s _ _ _ s.requires.0.1 n c.before.before.before.Closed-of.ensures in
-    ap (λ z. path_corner a.shapes.now a.anchors.now (z + h.loop.i)) s.requires.0.1
-    ∙ corner_in a.shapes.now a.anchors.now a.s h.loop.i s.requires.0.0 (omega arith)
-    ∙ ap (λ b. corner_at (plain_view a.anchors.now b) h.loop.i) (sym sub)
-    ∙ sym c.corner-at.ensures
+    let a = c.args in
+    let n = c.count_of-n.ensures in
+    let sub = sub_of_lem a.shapes.now a.s _ _ _ c.requires.0.1 n c.closed_of.ensures in
+    ap (λ z. path_corner a.shapes.now a.anchors.now (z + c.loop-i.i)) c.requires.0.1
+    ∙ corner_in a.shapes.now a.anchors.now a.s c.loop-i.i c.requires.0.0 (omega arith)
+    ∙ ap (λ b. corner_at (plain_view a.anchors.now b) c.loop-i.i) (sym sub)
+    ∙ sym c.corner_at-c.ensures
 
-loop-holds : tie.Need-loop-init invariant-loop decreases-loop
+loop-holds : tie.Need-loop-i-init invariant-loop decreases-loop
 loop-holds c =
-    let s = c.before.before.before.before.before.before.before.before in
-    (omega arith, refl, refl, rw (add-zero s.args.first) s.requires.1.1)
+    (omega arith, refl, refl, rw (add-zero c.args.first) c.requires.1.1)
 
-loop-again : tie.Need-loop-preserved invariant-loop decreases-loop
+loop-again : tie.Need-loop-i-preserved-then-not-c invariant-loop decreases-loop
 loop-again c =
-    let r = c.before.before in
-    let l = r.before.before.loop in
-    let a = r.before.before.before.before.before.before.before.before.before.before.before.args in
+    let l = c.loop-i in
+    let a = c.args in
     let e : a.first + (l.i + 1) ≡ a.first + l.i + 1 = omega arith in
-    (omega arith, l.invariant.1, l.invariant.2, rw e (holds_same _ _ _ _ _ l.invariant.3 (ap (λ k. k.found) (corner-is r) ∙ not-true _ c.if1.true)))
+    (omega arith, l.invariant.1, l.invariant.2, rw e (holds_same _ _ _ _ _ l.invariant.3 (ap (λ k. k.found) (corner-is c.before.before) ∙ not-true _ c.if-not-c.true)))
 
-loop-again-2 : tie.Need-loop-preserved-2 invariant-loop decreases-loop
+loop-again-2 : tie.Need-loop-i-preserved invariant-loop decreases-loop
 loop-again-2 c =
-    let r = c.before.before.before.before.before.before in
-    let l = r.before.before.loop in
-    let s = r.before.before.before.before.before.before.before.before.before.before.before in
-    let a = s.args in
-    let p = c.before.before.put-corner.ensures in
-    let m = room r.before in
+    let l = c.loop-i in
+    let a = c.args in
+    let p = c.put_corner.ensures in
+    let m = room c.before.before.before.before.before.before.before in
     let e : a.first + (l.i + 1) ≡ a.first + l.i + 1 = omega arith in
-    let h = holds_more _ _ _ _ _ l.invariant.3 (ap (λ k. k.found) (corner-is r) ∙ not-false _ c.before.before.before.before.if1.false) m.0 m.1 in
-    (omega arith, simp length-set l.invariant.1, ap length p ∙ length-put _ _ _ ∙ l.invariant.2, rw (e, p) (rw (corner-is r) at h))
+    let h = holds_more _ _ _ _ _ l.invariant.3 (ap (λ k. k.found) (corner-is c.before.before.before.before.before.before) ∙ not-false _ c.if-not-c.false) m.0 m.1 in
+    (omega arith, simp length-set l.invariant.1, ap length p ∙ length-put _ _ _ ∙ l.invariant.2, rw (e, p) (rw (corner-is c.before.before.before.before.before.before) at h))
 
 returns : tie.Need-returns invariant-loop decreases-loop
 returns c =
-    let l = c.before.loop in
-    let n = c.before.before.before.before.count_of in
+    let l = c.loop-i in
+    let n = c.count_of-n in
     let e : l.i ≡ n.result = omega arith in
     (l.invariant.1, (l.invariant.2, rw (e, n.ensures) at l.invariant.3))
 
-pub find-in-subpath-spec : {M : Type 1} → statement M
-find-in-subpath-spec =
+pub find_in_subpath_spec : {M : Type 1} → statement M
+find_in_subpath_spec =
     tie.close
     (tie.spec
     invariant-loop
@@ -115,7 +107,7 @@ find-in-subpath-spec =
     (λ c. let w = inside c.before.before.before in let f = few c.before.before.before in search rules)
     (λ c. (room c.before.before.before).0)
     (λ c κs. (room c.before.before.before.before).1)
-    (λ c. let p = c.before.before.before.before.before.before.before.before.before.before.before.before.before.before.before.before.before.requires.0 in let w = inside c.before.before.before.before.before.before.before in let f = few c.before.before.before.before.before.before.before in search rules)
+    (λ c. let p = c.requires.0 in let w = inside c.before.before.before.before.before.before.before in let f = few c.before.before.before.before.before.before.before in search rules)
     (λ c. search rules)
     (λ c. search rules)
     loop-again-2

@@ -10,7 +10,7 @@ use Rattle.corner_calls.proofs.finding.put_corner.Tie as tie
 returns : tie.Need-returns
 unfolding put_corner corner_numbers
 returns c =
-    let b = c.before.before.args.i * 9 in
+    let b = c.args.i * 9 in
     let e1 : b + 1 ≡ suc (b) = omega arith in
     let e2 : b + 2 ≡ suc (suc (b)) = omega arith in
     let e3 : b + 3 ≡ suc (suc (suc (b))) = omega arith in
@@ -19,10 +19,10 @@ returns c =
     let e6 : b + 6 ≡ suc (suc (suc (suc (suc (suc (b)))))) = omega arith in
     let e7 : b + 7 ≡ suc (suc (suc (suc (suc (suc (suc (b))))))) = omega arith in
     let e8 : b + 8 ≡ suc (suc (suc (suc (suc (suc (suc (suc (b)))))))) = omega arith in
-    rw (c.max-radius.ensures, e1, e2, e3, e4, e5, e6, e7, e8)
+    rw (c.max_radius-radius.ensures, e1, e2, e3, e4, e5, e6, e7, e8)
 
-pub put-corner-spec : {M : Type 1} → statement M
-put-corner-spec =
+pub put_corner_spec : {M : Type 1} → statement M
+put_corner_spec =
     tie.close
     (tie.spec
     (λ c κs. tt)

@@ -5,34 +5,33 @@ use Prim.Native.Nat.{ℕ, ◌-◌, ◌≤◌, ◌<◌}
 use native.Mathlib.Omega.{arith}
 use borrow.Author.Count.{below_none, below_more}
 use borrow.Author.Rules.{rules}
-use borrow.Author.Tests.{not-true, not-false}
 use Rattle.views.specs.View.{entry}
 use Rattle.views.proofs.Searches.{all_true, all_false}
 use Rattle.real.specs.Limit.{in_limit}
 use Rattle.corner_calls.proofs.limits.all_in_limit.Statement.{statement}
 use Rattle.corner_calls.proofs.limits.all_in_limit.Tie as tie
 
-abbrev invariant-loop : tie.invariant-loop
+abbrev invariant-loop : tie.invariant-loop-i
 invariant-loop xs n i₀ i = (i ≤ n) × ((j : ℕ) → j < i → in_limit (entry xs j) ≡ true)
 
-abbrev decreases-loop : tie.decreases-loop
+abbrev decreases-loop : tie.decreases-loop-i
 decreases-loop xs n i₀ i = n - i
 
-returns : tie.Need-returns invariant-loop decreases-loop
+returns : tie.Need-returns-then-not-in_limit invariant-loop decreases-loop
 returns c =
-    let l = c.before.before.before.before.loop in
-    sym (all_false _ _ l.i (omega arith) (sym c.before.in_limit_lem.ensures ∙ not-true _ c.if1.true))
+    let l = c.loop-i in
+    sym (all_false _ _ l.i (omega arith) (sym c.in_limit.ensures ∙ c.if-not-in_limit.true))
 
-loop-again : tie.Need-loop-preserved invariant-loop decreases-loop
+loop-again : tie.Need-loop-i-preserved invariant-loop decreases-loop
 loop-again c =
-    let l = c.before.before.before.before.loop in
-    (omega arith, below_more _ _ l.invariant.1 (sym c.before.in_limit_lem.ensures ∙ not-false _ c.if1.false))
+    let l = c.loop-i in
+    (omega arith, below_more _ _ l.invariant.1 (sym c.in_limit.ensures ∙ c.if-not-in_limit.false))
 
-returns-2 : tie.Need-returns-2 invariant-loop decreases-loop
-returns-2 c = sym (all_true _ _ (λ j h. c.before.loop.invariant.1 j (omega arith)))
+returns-2 : tie.Need-returns invariant-loop decreases-loop
+returns-2 c = sym (all_true _ _ (λ j h. c.loop-i.invariant.1 j (omega arith)))
 
-pub all-in-limit-spec : {M : Type 1} → statement M
-all-in-limit-spec =
+pub all_in_limit_spec : {M : Type 1} → statement M
+all_in_limit_spec =
     tie.close
     (tie.spec
     invariant-loop

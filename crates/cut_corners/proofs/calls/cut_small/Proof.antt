@@ -7,18 +7,18 @@ use Rattle.cut_corners.proofs.calls.cut_small.Tie as tie
 
 returns : tie.Need-returns
 returns c =
-    let a = c.before.before.before.before.before.before.before.before.before.before.before.before.before.before.before.before.before.before.before.before.before.before.before.before.before.before.before.args in
-    let h = c.before.before.before.before.before.hand-over.ensures in
-    let laid = c.before.before.before.before.before.before.before.before.before.before.before.before.before.before.before.before.lay-drawing.ensures.1.1 in (
-      h.0 ∙ answer-laid a.shapes.now a.anchors.now a.radii.now a.kind _ _ laid a.to-shapes.now a.to.now,
+    let a = c.args in
+    let h = c.hand_over.ensures in
+    let laid = c.lay_drawing.ensures.1.1 in (
+      h.0 ∙ answer-laid a.shapes.now a.anchors.now a.radii.now a.kind _ _ laid a.to_shapes.now a.to.now,
       (
-        h.1.0 ∙ shapes_laid a.shapes.now a.anchors.now a.radii.now a.kind _ _ laid a.to-shapes.now a.to.now,
-        h.1.1 ∙ anchors_laid a.shapes.now a.anchors.now a.radii.now a.kind _ _ laid a.to-shapes.now a.to.now,
+        h.1.0 ∙ shapes_laid a.shapes.now a.anchors.now a.radii.now a.kind _ _ laid a.to_shapes.now a.to.now,
+        h.1.1 ∙ anchors_laid a.shapes.now a.anchors.now a.radii.now a.kind _ _ laid a.to_shapes.now a.to.now,
       ),
     )
 
-pub cut-small-spec : {M : Type 1} → statement M
-cut-small-spec =
+pub cut_small_spec : {M : Type 1} → statement M
+cut_small_spec =
     tie.close
     (tie.spec
     (λ c. search rules)

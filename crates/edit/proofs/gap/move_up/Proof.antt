@@ -12,20 +12,20 @@ use Rattle.edit.proofs.Gaps.{below, step}
 use Rattle.edit.proofs.gap.move_up.Statement.{statement}
 use Rattle.edit.proofs.gap.move_up.Tie as tie
 
-abbrev invariant-loop : tie.invariant-loop
+abbrev invariant-loop : tie.invariant-loop-i
 invariant-loop list₀ lo hi by i₀ list i =
     (lo ≤ i) × (i ≤ hi) × (length list ≡ length list₀) × ((j : ℕ) → j < hi + by → entry list j ≡ shifted_at list₀ i by j) × ((j : ℕ) → hi + by ≤ j → entry list j ≡ entry list₀ j)
 
-abbrev decreases-loop : tie.decreases-loop
+abbrev decreases-loop : tie.decreases-loop-i
 decreases-loop list₀ lo hi by i₀ list i = i
 
-loop-holds : tie.Need-loop-init invariant-loop decreases-loop
+loop-holds : tie.Need-loop-i-init invariant-loop decreases-loop
 loop-holds c = (omega arith, omega arith, refl, (λ j h. sym (below c.args.list.now c.args.hi c.args.by j h)), λ j h. refl)
 
-loop-again : tie.Need-loop-preserved invariant-loop decreases-loop
+loop-again : tie.Need-loop-i-preserved invariant-loop decreases-loop
 loop-again c =
-    let a = c.before.before.before.args in
-    let l = c.before.before.loop in
+    let a = c.args in
+    let l = c.loop-i in
     let v = entry l.list (l.i - 1) in (
       omega arith,
       omega arith,
@@ -37,8 +37,8 @@ loop-again c =
 returns : tie.Need-returns invariant-loop decreases-loop
 unfolding moved
 returns c =
-    let a = c.before.before.args in
-    let l = c.before.loop in
+    let a = c.args in
+    let l = c.loop-i in
     let e : l.i ≡ a.lo = omega arith in
     as_overwrite nan l.list a.list.now (a.hi + a.by) (shifted_at a.list.now a.lo a.by) l.invariant.2 (λ j h. rw e at (l.invariant.3 j h)) l.invariant.4
 

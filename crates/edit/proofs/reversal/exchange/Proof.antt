@@ -5,12 +5,10 @@ use Rattle.edit.proofs.reversal.exchange.Tie as tie
 
 returns : tie.Need-returns
 returns c =
-    let t = c.before.before.before in
-    let p = t.before.before.before.before in
-    rw (c.before.before.put-anchor2.ensures, t.turned2.ensures, p.put-anchor.ensures, p.before.turned.ensures, p.before.before.before.anchor-at2.ensures, p.before.before.before.before.before.anchor-at.ensures)
+    rw (c.put_anchor-2.ensures, c.turned-2.ensures, c.put_anchor.ensures, c.turned.ensures, c.anchor_at-b.ensures, c.anchor_at-a.ensures)
 
-pub exchange-spec : {M : Type 1} → statement M
-exchange-spec =
+pub exchange_spec : {M : Type 1} → statement M
+exchange_spec =
     tie.close
     (tie.spec
     (λ c κs. search rules)

@@ -11,38 +11,35 @@ use Rattle.edit.proofs.reversal.reversed_opened.Tie as tie
 opens : (c : tie.Start) → DrawingOpens c.args.shapes.now c.args.anchors.now c.args.radii.now c.args.n
 opens c = drawing_opens c.args.shapes.now c.args.anchors.now c.args.radii.now c.args.n c.requires
 
-returns : tie.Need-returns
+returns : tie.Need-returns-then-shapes-s
 returns c =
-    let o = c.before.before.before.before in
-    let a = o.args in
-    let h = reversed-refused a.shapes.now a.anchors.now a.radii.now a.s 6 0 (no_subpath a.shapes.now a.anchors.now a.radii.now a.s a.n (opens o) (omega arith)) in
+    let a = c.args in
+    let h = reversed-refused a.shapes.now a.anchors.now a.radii.now a.s 6 0 (no_subpath a.shapes.now a.anchors.now a.radii.now a.s a.n (opens c.before.before.before.before) (omega arith)) in
     (h.0, h.1)
 
-start-requires : tie.Need-start-of-requires
+start-requires : tie.Need-start_of-requires
 start-requires c κs = let w = (opens c.before.before.before.before.before.before.before).words in (omega arith, w)
 
-turn-requires : tie.Need-turn-round-requires
+turn-requires : tie.Need-turn_round-requires
 turn-requires c κs =
-    let o = c.before.before.before.before.before.before.before.before in
-    let a = o.args in
-    let p = opens o in
+    let a = c.args in
+    let p = opens c.before.before.before.before.before.before.before.before in
     let k = p.count in
     let f = p.few in
     let l = p.long in
-    let e = c.start_of_lem.ensures in
-    let d = c.before.before.count_of.ensures in
+    let e = c.start_of.ensures in
+    let d = c.count_of-count.ensures in
     let t = total_in a.shapes.now a.s (omega arith) in
     (omega arith, omega arith, omega arith)
 
-returns-2 : tie.Need-returns-2
+returns-2 : tie.Need-returns
 returns-2 c =
-    let o = c.before.before.before.before.before.before.before.before.before.before.before in
-    let a = o.args in
-    let h = reversed_accepted a.shapes.now a.anchors.now a.radii.now a.s a.n (opens o) (omega arith) _ _ c.before.before.before.start_of_lem.ensures c.before.before.before.before.before.count_of.ensures in
-    (h.0, c.before.before.turn-round.ensures ∙ h.1)
+    let a = c.args in
+    let h = reversed_accepted a.shapes.now a.anchors.now a.radii.now a.s a.n (opens c.before.before.before.before.before.before.before.before.before.before.before) (omega arith) _ _ c.start_of.ensures c.count_of-count.ensures in
+    (h.0, c.turn_round.ensures ∙ h.1)
 
-pub reversed-opened-spec : {M : Type 1} → statement M
-reversed-opened-spec =
+pub reversed_opened_spec : {M : Type 1} → statement M
+reversed_opened_spec =
     tie.close
     (tie.spec
     returns

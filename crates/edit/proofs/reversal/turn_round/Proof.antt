@@ -1,7 +1,7 @@
 -- `edit::reversal::turn_round` meets its contract: the i anchors at either end have changed places, the others have not. Assumes nothing.
 use Prim.Native.Nat.{ℕ, ◌+◌, ◌-◌, ◌*◌, ◌/◌, ◌≤◌, ◌<◌}
 use mathlib.Core.Path.{◌≡◌, refl, ap, ◌∙◌}
-use mathlib.Core.Logic.{◌⊎◌, inr, ⊎_elim}
+use mathlib.Core.Logic.{inr, ⊎_elim}
 use borrow.Author.Rules.{rules}
 use native.Mathlib.Omega.{arith}
 use lib.ListN.{length}
@@ -13,22 +13,21 @@ use Rattle.edit.proofs.Turning.{Turned, Kept, turned_more, kept_more, turned_rou
 use Rattle.edit.proofs.reversal.turn_round.Statement.{statement}
 use Rattle.edit.proofs.reversal.turn_round.Tie as tie
 
-abbrev invariant-loop : tie.invariant-loop
+abbrev invariant-loop : tie.invariant-loop-i
 invariant-loop anchors₀ all first n half i₀ anchors i =
     (i ≤ half) × (half ≡ (n + 1) / 2) × (length anchors ≡ length anchors₀) × Turned anchors₀ first n i anchors × Kept anchors₀ first n i anchors × ((j : ℕ) → all * 6 ≤ j → entry anchors j ≡ entry anchors₀ j)
 
-abbrev decreases-loop : tie.decreases-loop
+abbrev decreases-loop : tie.decreases-loop-i
 decreases-loop anchors₀ all first n half i₀ anchors i = half - i
 
-loop-holds : tie.Need-loop-init invariant-loop decreases-loop
+loop-holds : tie.Need-loop-i-init invariant-loop decreases-loop
 loop-holds c = (omega arith, refl, refl, (λ k a b o. ⊎_elim (λ h. absurd (omega arith)) (λ h. absurd (omega arith)) o), (λ k o. refl), λ j h. refl)
 
-loop-again : tie.Need-loop-preserved invariant-loop decreases-loop
+loop-again : tie.Need-loop-i-preserved invariant-loop decreases-loop
 loop-again c =
-    let o = c.before.before.before.before.before.before.before in
-    let a = o.args in
-    let l = c.before.before.before.before.before.loop in
-    let e = c.before.before.exchange.ensures in
+    let a = c.args in
+    let l = c.loop-i in
+    let e = c.exchange.ensures in
     let u = a.first + l.i in
     let v = a.first + (a.n - 1 - l.i) in
     let x = turned (anchor_at l.anchors v) in
@@ -45,13 +44,13 @@ loop-again c =
 
 returns : tie.Need-returns invariant-loop decreases-loop
 returns c =
-    let a = c.before.before.before.args in
-    let l = c.before.loop in
+    let a = c.args in
+    let l = c.loop-i in
     let e : l.i ≡ (a.n + 1) / 2 = omega arith in
     turned_round a.anchors.now a.first a.n a.all l.anchors l.invariant.2 (omega arith) (omega arith) (rw e at l.invariant.3) (rw e at l.invariant.4) l.invariant.5
 
-pub turn-round-spec : {M : Type 1} → statement M
-turn-round-spec =
+pub turn_round_spec : {M : Type 1} → statement M
+turn_round_spec =
     tie.close
     (tie.spec
     invariant-loop

@@ -8,5 +8,5 @@ returns : tie.Need-returns
 unfolding turned
 returns c = refl
 
-pub turned-spec : {M : Type 1} → statement M
-turned-spec = tie.close (tie.spec returns)
+pub turned_spec : {M : Type 1} → statement M
+turned_spec = tie.close (tie.spec returns)

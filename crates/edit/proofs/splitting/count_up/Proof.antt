@@ -10,13 +10,13 @@ returns : tie.Need-returns
 unfolding split_shapes
 returns c = refl
 
-pub count-up-spec : {M : Type 1} → statement M
-count-up-spec =
+pub count_up_spec : {M : Type 1} → statement M
+count_up_spec =
     tie.close
     (tie.spec
     (λ c. search rules)
     (λ c. search rules)
-    (λ c. omega (arith, c.slice-known.given c.before.args.s))
+    (λ c. omega (arith, c.slice_known-1.given c.args.s))
     (λ c. search rules)
     (λ c. search rules)
     (λ c. search rules)

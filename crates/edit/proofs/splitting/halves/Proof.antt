@@ -7,11 +7,10 @@ use Rattle.edit.proofs.splitting.halves.Tie as tie
 returns : tie.Need-returns
 unfolding halves
 returns c =
-    let s = c.before.before.before.before.before.before.before.before.before.before.before in
-    rw (s.split-cubic.ensures, s.before.cubic.ensures)
+    rw (c.split_cubic-h.ensures, c.cubic.ensures)
 
-pub halves-spec : {M : Type 1} → statement M
-halves-spec =
+pub halves_spec : {M : Type 1} → statement M
+halves_spec =
     tie.close
     (tie.spec
     (λ c κs. tt)

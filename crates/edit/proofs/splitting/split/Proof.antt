@@ -5,23 +5,23 @@ use Rattle.edit.proofs.Outcomes.{split-refused, not_opened}
 use Rattle.edit.proofs.splitting.split.Statement.{statement}
 use Rattle.edit.proofs.splitting.split.Tie as tie
 
-returns : tie.Need-returns
+returns : tie.Need-returns-in-Refused
 returns c =
-    let a = c.before.before.before.before.before.before.before.before.args in
-    let h = split-refused a.shapes.now a.anchors.now a.s a.a a.t _ _ (not_opened a.shapes.now a.anchors.now a.s a.a a.t _ _ (sym c.before.before.before.open-path.ensures ∙ c.before.opened.given.1)) in
+    let a = c.args in
+    let h = split-refused a.shapes.now a.anchors.now a.s a.a a.t _ _ (not_opened a.shapes.now a.anchors.now a.s a.a a.t _ _ (sym c.open_path-opened.ensures ∙ c.in-Refused.is)) in
     (h.0, (h.1, h.2))
 
-returns-2 : tie.Need-returns-2
+returns-2 : tie.Need-returns-in-Anchors
 returns-2 c = search rules
 
-pub split-spec : {M : Type 1} → statement M
-split-spec =
+pub split_spec : {M : Type 1} → statement M
+split_spec =
     tie.close
     (tie.spec
     (λ c κs. search rules)
     (λ c. search rules)
     (λ c. search rules)
-    (λ c κs. sym c.before.before.before.before.before.open-path.ensures ∙ c.before.before.before.opened2.given.1)
+    (λ c κs. sym c.open_path-opened.ensures ∙ c.in-Anchors.is)
     (λ c. search rules)
     (λ c. search rules)
     returns

@@ -14,55 +14,50 @@ use Rattle.edit.proofs.Outcomes.{between-refused, between_bad, between-short, be
 use Rattle.edit.proofs.splitting.split_between.Statement.{statement}
 use Rattle.edit.proofs.splitting.split_between.Tie as tie
 
-first-out-requires : tie.Need-first-out-requires
+first-out-requires : tie.Need-first_out-bad-requires
 first-out-requires c κs =
-    let o = c.before.before.before.before.before.before.before.before in
-    let s = ends_apart o.args.n o.args.a o.args.b o.requires.5 o.requires.6 in
+    let s = ends_apart c.args.n c.args.a c.args.b c.requires.5 c.requires.6 in
     let e = c.shifted.ensures in
     (omega arith, rw e s.start, rw e s.middle)
 
 -- the first place that breaks the limit
-told : (c : tie.After-first-out) →
-    let a = c.before.before.before.before.before.before.before.before.before.args in
-    c.first_out.result ≡ first_bad (puts_within (halves (anchor_at a.anchors.now a.a) (anchor_at a.anchors.now a.b) a.t) a.a (shifted a.a a.b)) (a.n + 1)
+told : (c : tie.After-first_out-bad) →
+    let a = c.args in
+    c.first_out-bad.result ≡ first_bad (puts_within (halves (anchor_at a.anchors.now a.a) (anchor_at a.anchors.now a.b) a.t) a.a (shifted a.a a.b)) (a.n + 1)
 told c =
-    let o = c.before.before.before.before.before.before.before.before.before in
-    let s = (ends_apart o.args.n o.args.a o.args.b o.requires.5 o.requires.6).place in
-    let e = c.before.shifted.ensures in
-    rw (← c.before.before.before.before.before.anchor-at.ensures, ← c.before.before.before.anchor-at2.ensures, ← c.before.before.halves.ensures, ← c.before.shifted.ensures) (c.first_out.ensures (o.args.n + 1) (omega arith) (omega arith))
+    let s = (ends_apart c.args.n c.args.a c.args.b c.requires.5 c.requires.6).place in
+    let e = c.shifted.ensures in
+    rw (← c.anchor_at.ensures, ← c.anchor_at-2.ensures, ← c.halves-h.ensures, ← c.shifted.ensures) (c.first_out-bad.ensures (c.args.n + 1) (omega arith) (omega arith))
 
-returns : tie.Need-returns
+returns : tie.Need-returns-in-At
 returns c =
-    let o = c.before.before.before.before.before.before.before.before.before.before.before.before in
-    let a = o.args in
+    let a = c.args in
     let h = between-refused a.shapes.now a.anchors.now a.n a.s a.a a.b a.t 9 _
-    (between_bad a.shapes.now a.anchors.now a.n a.s a.a a.b a.t o.requires.4 o.requires.7 _ (sym (told c.before.before.before) ∙ c.before.bad.given.1)) in
+    (between_bad a.shapes.now a.anchors.now a.n a.s a.a a.b a.t c.requires.4 c.requires.7 _ (sym (told c.before) ∙ c.in-At.is)) in
     (h.0, (h.1, h.2))
 
-returns-2 : tie.Need-returns-2
+returns-2 : tie.Need-returns-then-anchors-n
 returns-2 c =
-    let o = c.before.before.before.before.before.before.before.before.before.before.before.before in
-    let a = o.args in
+    let a = c.args in
     let h = between-refused a.shapes.now a.anchors.now a.n a.s a.a a.b a.t 8 0
-    (between-short a.shapes.now a.anchors.now a.n a.s a.a a.b a.t o.requires.4 o.requires.7 (sym (told c.before.before.before) ∙ c.before.enum_told.given.1) (omega arith)) in
+    (between-short a.shapes.now a.anchors.now a.n a.s a.a a.b a.t c.requires.4 c.requires.7 (sym (told c.before.before) ∙ c.in_default.is) (omega arith)) in
     (h.0, (h.1, h.2))
 
-count-up-requires : tie.Need-count-up-requires
-count-up-requires c κs = let o = c.before.before.before.before.before.before.before.before.before.before.before.before.before.before.before.before.before in (o.requires.0, o.requires.1)
+count-up-requires : tie.Need-count_up-requires
+count-up-requires c κs = (c.requires.0, c.requires.1)
 
-returns-3 : tie.Need-returns-3
+returns-3 : tie.Need-returns
 unfolding split_shapes
 returns-3 c =
-    let o = c.before.before.before.before.before.before.before.before.before.before.before.before.before.before.before.before.before.before.before.before in
-    let a = o.args in
-    let h = between_accepted a.shapes.now a.anchors.now a.n a.s a.a a.b a.t o.requires.4 o.requires.7 (sym (told c.before.before.before.before.before.before.before.before.before.before.before) ∙ c.before.before.before.before.before.before.before.before.before.enum_told.given.1) o.requires.6 o.requires.5 (omega arith) in
-    let e = c.before.before.count-up.ensures in (
+    let a = c.args in
+    let h = between_accepted a.shapes.now a.anchors.now a.n a.s a.a a.b a.t c.requires.4 c.requires.7 (sym (told c.before.before.before.before.before.before.before.before.before.before) ∙ c.in_default.is) c.requires.6 c.requires.5 (omega arith) in
+    let e = c.count_up.ensures in (
       ap (λ l. Accepted (length l) (a.n + 1)) e ∙ ap (λ l. Accepted l (a.n + 1)) (length-set a.shapes.now a.s (word_at a.shapes.now a.s + 1)) ∙ h.0,
-      (e ∙ h.1, c.before.before.before.before.before.before.put-halves.ensures ∙ rw (c.before.before.before.before.before.before.before.before.before.before.before.before.before.halves.ensures, c.before.before.before.before.before.before.before.before.before.before.before.before.before.before.anchor-at2.ensures, c.before.before.before.before.before.before.before.before.before.before.before.before.before.before.before.before.anchor-at.ensures) h.2),
+      (e ∙ h.1, c.put_halves.ensures ∙ rw (c.halves-h.ensures, c.anchor_at-2.ensures, c.anchor_at.ensures) h.2),
     )
 
-pub split-between-spec : {M : Type 1} → statement M
-split-between-spec =
+pub split_between_spec : {M : Type 1} → statement M
+split_between_spec =
     tie.close
     (tie.spec
     (λ c κs. search rules)
@@ -80,7 +75,7 @@ split-between-spec =
     returns-2
     (λ c κs. search rules)
     count-up-requires
-    (λ c. omega (arith, c.before.before.before.before.before.before.before.before.before.before.before.before.before.before.before.before.before.before.before.before.requires.2))
+    (λ c. omega (arith, c.requires.2))
     (λ c. search rules)
     (λ c. search rules)
     returns-3)

@@ -4,13 +4,13 @@ use Rattle.hit.specs.Best.{beats}
 use Rattle.hit.proofs.best.beats.Statement.{statement}
 use Rattle.hit.proofs.best.beats.Tie as tie
 
-returns : tie.Need-returns
+returns : tie.Need-returns-in-Nothing
 unfolding beats
 returns c = search rules
 
-returns-2 : tie.Need-returns-2
+returns-2 : tie.Need-returns-in-At
 unfolding beats
-returns-2 c = rw c.enum-told2.given.1
+returns-2 c = rw c.in-At.is
 
-pub beats-spec : {M : Type 1} → statement M
-beats-spec = tie.close (tie.spec (λ c. search rules) (λ c. search rules) returns returns-2)
+pub beats_spec : {M : Type 1} → statement M
+beats_spec = tie.close (tie.spec (λ c. search rules) (λ c. search rules) returns returns-2)

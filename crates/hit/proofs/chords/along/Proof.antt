@@ -3,17 +3,17 @@ use Rattle.hit.proofs.Offsets.{along-part, along-none}
 use Rattle.hit.proofs.chords.along.Statement.{statement}
 use Rattle.hit.proofs.chords.along.Tie as tie
 
-returns : tie.Need-returns
+returns : tie.Need-returns-then-square
 returns c =
     let n = c.before in
     let t = n.before.before in
     let s = t.before in
-    along-part _ _ _ _ _ s.before.sub.ensures s.dot.ensures _ _ _ n.before.sub2.ensures n.dot2.ensures c.clamp.ensures t.if1.true
+    along-part _ _ _ _ _ s.sub-d.ensures s.dot-square.ensures _ _ _ n.sub.ensures n.dot.ensures c.clamp.ensures t.if-square.true
 
-returns-2 : tie.Need-returns-2
+returns-2 : tie.Need-returns
 returns-2 c =
     let s = c.before in
-    along-none _ _ _ _ _ s.before.sub.ensures s.dot.ensures c.if1.false
+    along-none _ _ _ _ _ s.sub-d.ensures s.dot-square.ensures c.if-square.false
 
-pub along-spec : {M : Type 1} → statement M
-along-spec = tie.close (tie.spec (λ c κs. tt) (λ c κs. tt) (λ c κs. tt) (λ c κs. tt) (λ c κs. tt) returns returns-2)
+pub along_spec : {M : Type 1} → statement M
+along_spec = tie.close (tie.spec (λ c κs. tt) (λ c κs. tt) (λ c κs. tt) (λ c κs. tt) (λ c κs. tt) returns returns-2)

@@ -8,7 +8,7 @@ returns c =
     let s = c.before in
     let m = s.before in
     let d = m.before in
-    offset-is _ _ _ _ _ _ _ _ d.before.along.ensures d.sub.ensures m.mul.ensures s.add.ensures c.sub2.ensures
+    offset-is _ _ _ _ _ _ _ _ d.along-u.ensures d.sub.ensures m.mul.ensures s.add.ensures c.sub-2.ensures
 
-pub offset-spec : {M : Type 1} → statement M
-offset-spec = tie.close (tie.spec (λ c κs. tt) (λ c κs. tt) (λ c κs. tt) (λ c κs. tt) (λ c κs. tt) returns)
+pub offset_spec : {M : Type 1} → statement M
+offset_spec = tie.close (tie.spec (λ c κs. tt) (λ c κs. tt) (λ c κs. tt) (λ c κs. tt) (λ c κs. tt) returns)

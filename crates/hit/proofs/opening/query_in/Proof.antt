@@ -1,26 +1,25 @@
 -- `hit::opening::query_in` meets its contract. Assumes nothing.
 use mathlib.Core.Path.{sym, ◌∙◌}
-use borrow.Author.Tests.{not-true, not-false}
 use Rattle.hit.specs.Calls.{query_in}
 use Rattle.hit.proofs.opening.query_in.Statement.{statement}
 use Rattle.hit.proofs.opening.query_in.Tie as tie
 
-returns : tie.Need-returns
+returns : tie.Need-returns-then-not-in_limit
 unfolding query_in
-returns c = rw (sym c.before.in_limit_lem.ensures ∙ not-true _ c.if1.true)
+returns c = rw (sym c.in_limit.ensures ∙ c.if-not-in_limit.true)
 
-returns-2 : tie.Need-returns-2
+returns-2 : tie.Need-returns-then-not-in_limit-2
 unfolding query_in
 returns-2 c =
     let x = c.before.before in
-    rw (sym x.before.in_limit_lem.ensures ∙ not-false _ x.if1.false, sym c.before.in-limit2.ensures ∙ not-true _ c.if2.true)
+    rw (sym x.in_limit.ensures ∙ x.if-not-in_limit.false, sym c.in_limit-2.ensures ∙ c.if-not-in_limit-2.true)
 
-returns-3 : tie.Need-returns-3
+returns-3 : tie.Need-returns
 unfolding query_in
 returns-3 c =
     let y = c.before in
     let x = y.before.before in
-    rw (sym x.before.in_limit_lem.ensures ∙ not-false _ x.if1.false, sym y.before.in-limit2.ensures ∙ not-false _ y.if2.false) c.in-limit3.ensures
+    rw (sym x.in_limit.ensures ∙ x.if-not-in_limit.false, sym y.in_limit-2.ensures ∙ y.if-not-in_limit-2.false) c.in_limit-3.ensures
 
-pub query-in-spec : {M : Type 1} → statement M
-query-in-spec = tie.close (tie.spec (λ c κs. tt) returns (λ c κs. tt) returns-2 (λ c κs. tt) returns-3)
+pub query_in_spec : {M : Type 1} → statement M
+query_in_spec = tie.close (tie.spec (λ c κs. tt) returns (λ c κs. tt) returns-2 (λ c κs. tt) returns-3)

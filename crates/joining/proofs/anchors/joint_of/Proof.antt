@@ -16,14 +16,14 @@ unfolding joint_of
 lands drawn zero first h = absurd (omega arith)
 lands drawn (suc last) first h = let e : suc last - 1 ≡ last = omega arith in ap (λ k. landed (anchor_at drawn k) first) e
 
-returns : tie.Need-returns
+returns : tie.Need-returns-then-count-eq0
 unfolding joint_of
 returns c = search rules
 
-returns-2 : tie.Need-returns-2
+returns-2 : tie.Need-returns
 returns-2 c =
-    let a = c.before.before.before.before.args in
-    c.landed.ensures ∙ ap (λ z. landed z a.first) c.before.anchor-at.ensures ∙ lands a.drawn.now a.count a.first (omega arith)
+    let a = c.args in
+    c.landed.ensures ∙ ap (λ z. landed z a.first) c.anchor_at.ensures ∙ lands a.drawn.now a.count a.first (omega arith)
 
-pub joint-of-spec : {M : Type 1} → statement M
-joint-of-spec = tie.close (tie.spec returns (λ c. search rules) (λ c κs. search rules) (λ c κs. tt) returns-2)
+pub joint_of_spec : {M : Type 1} → statement M
+joint_of_spec = tie.close (tie.spec returns (λ c. search rules) (λ c κs. search rules) (λ c κs. tt) returns-2)

@@ -5,7 +5,7 @@ use Rattle.joining.proofs.anchors.landed.Tie as tie
 
 returns : tie.Need-returns
 unfolding landed
-returns c = rw (c.add.ensures, c.before.sub.ensures)
+returns c = rw (c.add-h_in.ensures, c.sub.ensures)
 
-pub landed-spec : {M : Type 1} → statement M
-landed-spec = tie.close (tie.spec (λ c κs. tt) (λ c κs. tt) returns)
+pub landed_spec : {M : Type 1} → statement M
+landed_spec = tie.close (tie.spec (λ c κs. tt) (λ c κs. tt) returns)

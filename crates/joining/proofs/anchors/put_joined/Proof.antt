@@ -8,12 +8,12 @@ use Rattle.joining.proofs.anchors.put_joined.Tie as tie
 
 returns : tie.Need-returns
 returns c =
-    let a = c.before.before.before.before.before.before.before.before.before.before.before.before.before.before.before.args in
+    let a = c.args in
     let r = length_rest a.target.now a.n a.at_start in
-    put-joined-is a.drawn.now a.to.now _ _ _ a.before a.joint _ (omega arith) c.before.before.before.before.before.before.before.before.before.before.copy.ensures c.before.before.before.before.before.before.put-anchor.ensures c.before.before.put_rest.ensures
+    put-joined-is a.drawn.now a.to.now _ _ _ a.before a.joint _ (omega arith) c.copy.ensures c.put_anchor.ensures c.put_rest.ensures
 
-pub put-joined-spec : {M : Type 1} → statement M
-put-joined-spec =
+pub put_joined_spec : {M : Type 1} → statement M
+put_joined_spec =
     tie.close
     (tie.spec
     (λ c. search rules)

@@ -9,15 +9,15 @@ use Rattle.joining.proofs.Within.{reversed_at}
 use Rattle.joining.proofs.anchors.target_at.Statement.{statement}
 use Rattle.joining.proofs.anchors.target_at.Tie as tie
 
-returns : tie.Need-returns
+returns : tie.Need-returns-then-at_start
 unfolding target_at
-returns c = rw c.before.if1.true c.anchor-at.ensures
+returns c = rw c.if-at_start.true c.anchor_at.ensures
 
-returns-2 : tie.Need-returns-2
+returns-2 : tie.Need-returns
 unfolding target_at
 returns-2 c =
-    let a = c.before.before.before.before.args in
-    rw c.before.before.if1.false (c.turned.ensures ∙ ap turned c.before.anchor-at2.ensures ∙ sym (reversed_at (anchor_at a.target.now) a.n a.k (omega arith)))
+    let a = c.args in
+    rw c.if-at_start.false (c.turned.ensures ∙ ap turned c.anchor_at-2.ensures ∙ sym (reversed_at (anchor_at a.target.now) a.n a.k (omega arith)))
 
-pub target-at-spec : {M : Type 1} → statement M
-target-at-spec = tie.close (tie.spec (λ c κs. search rules) returns (λ c. search rules) (λ c. search rules) (λ c κs. search rules) (λ c κs. tt) returns-2)
+pub target_at_spec : {M : Type 1} → statement M
+target_at_spec = tie.close (tie.spec (λ c κs. search rules) returns (λ c. search rules) (λ c. search rules) (λ c κs. search rules) (λ c κs. tt) returns-2)

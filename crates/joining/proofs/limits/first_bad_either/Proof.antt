@@ -9,31 +9,31 @@ use Rattle.joining.proofs.Eithers.{bad_drawn, bad_target, bad_nowhere}
 use Rattle.joining.proofs.limits.first_bad_either.Statement.{statement}
 use Rattle.joining.proofs.limits.first_bad_either.Tie as tie
 
-returns : tie.Need-returns
+returns : tie.Need-returns-in-At
 returns c =
-    let a = c.before.before.before.before.before.before.args in
-    bad_drawn a.drawn.now a.count a.target.now a.n _ (sym c.before.before.before.first-bad-of.ensures ∙ c.before.bad.given.1)
+    let a = c.args in
+    bad_drawn a.drawn.now a.count a.target.now a.n _ (sym c.first_bad_of-bad.ensures ∙ c.in-At.is)
 
-none-drawn : (c : tie.After-enum-told) → let a = c.before.before.before.before.before.args in first_bad (anchor_in a.drawn.now) a.count ≡ Nothing
-none-drawn c = sym c.before.before.first-bad-of.ensures ∙ c.enum_told.given.1
+none-drawn : (c : tie.In_default) → let a = c.args in first_bad (anchor_in a.drawn.now) a.count ≡ Nothing
+none-drawn c = sym c.first_bad_of-bad.ensures ∙ c.in_default.is
 
-add-place : tie.Need-overflow-add-t10
+add-place : tie.Need-overflow_add-result
 add-place c =
-    let l = ((first_is _ _ _).0 (sym c.before.before.before.first-bad-of2.ensures ∙ c.before.other.given.1)).place in
+    let l = ((first_is _ _ _).0 (sym c.first_bad_of-other.ensures ∙ c.in-At-other.is)).place in
     record { fits = omega arith }
 
-returns-2 : tie.Need-returns-2
+returns-2 : tie.Need-returns-in-At-other
 returns-2 c =
-    let a = c.before.before.before.before.before.before.before.before.before.args in
-    bad_target a.drawn.now a.count a.target.now a.n (none-drawn c.before.before.before.before) _ (sym c.before.before.before.first-bad-of2.ensures ∙ c.before.other.given.1)
+    let a = c.args in
+    bad_target a.drawn.now a.count a.target.now a.n (none-drawn c.before.before) _ (sym c.first_bad_of-other.ensures ∙ c.in-At-other.is)
 
-returns-3 : tie.Need-returns-3
+returns-3 : tie.Need-returns-in-Nothing
 returns-3 c =
-    let a = c.before.before.before.before.before.before.before.before.args in
-    bad_nowhere a.drawn.now a.count a.target.now a.n (none-drawn c.before.before.before) (sym c.before.before.first-bad-of2.ensures ∙ c.enum-told2.given.1)
+    let a = c.args in
+    bad_nowhere a.drawn.now a.count a.target.now a.n (none-drawn c.before.before) (sym c.first_bad_of-other.ensures ∙ c.in-Nothing.is)
 
-pub first-bad-either-spec : {M : Type 1} → statement M
-first-bad-either-spec =
+pub first_bad_either_spec : {M : Type 1} → statement M
+first_bad_either_spec =
     tie.close
     (tie.spec
     (λ c κs. search rules)

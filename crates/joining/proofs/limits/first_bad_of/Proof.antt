@@ -15,14 +15,14 @@ one_word : (n w : ℕ) → n ≤ 512 → w ≡ word_of n false → total (w ∷ 
 unfolding word_of
 one_word n w h e = omega arith
 
-called-for : (c : tie.After-word) → total (c.word.result ∷ []) ≡ c.before.before.args.n
+called-for : (c : tie.After-word) → total (c.word.result ∷ []) ≡ c.args.n
 called-for c = one_word _ _ (omega arith) c.word.ensures
 
-first-bad-anchor-requires : tie.Need-first-bad-anchor-requires
+first-bad-anchor-requires : tie.Need-first_bad_anchor-requires
 first-bad-anchor-requires c κs = let e = called-for c.before in (omega arith, omega arith, omega arith)
 
 returns : tie.Need-returns
-returns c = c.first-bad-anchor.ensures ∙ ap (first_bad (anchor_in c.before.before.before.before.args.list.now)) (called-for c.before.before)
+returns c = c.first_bad_anchor.ensures ∙ ap (first_bad (anchor_in c.args.list.now)) (called-for c.before.before)
 
-pub first-bad-of-spec : {M : Type 1} → statement M
-first-bad-of-spec = tie.close (tie.spec (λ c κs. search rules) (λ c. search rules) first-bad-anchor-requires returns)
+pub first_bad_of_spec : {M : Type 1} → statement M
+first_bad_of_spec = tie.close (tie.spec (λ c κs. search rules) (λ c. search rules) first-bad-anchor-requires returns)

@@ -6,11 +6,11 @@ use Rattle.joining.proofs.Eithers.{too_many, by_length}
 use Rattle.joining.proofs.limits.list_fits.Statement.{statement}
 use Rattle.joining.proofs.limits.list_fits.Tie as tie
 
-returns : tie.Need-returns
+returns : tie.Need-returns-then-n-gt512
 returns c = sym (too_many _ _ (omega arith))
 
-returns-2 : tie.Need-returns-2
+returns-2 : tie.Need-returns
 returns-2 c = sym (by_length _ _ (omega arith))
 
-pub list-fits-spec : {M : Type 1} → statement M
-list-fits-spec = tie.close (tie.spec returns (λ c. search rules) returns-2)
+pub list_fits_spec : {M : Type 1} → statement M
+list_fits_spec = tie.close (tie.spec returns (λ c. search rules) returns-2)

@@ -9,35 +9,35 @@ use Rattle.removal.proofs.Outcomes.{whole, delete-refused, not-whole, not_opened
 use Rattle.removal.proofs.deletion.delete.Statement.{statement}
 use Rattle.removal.proofs.deletion.delete.Tie as tie
 
-returns : tie.Need-returns
+returns : tie.Need-returns-then-which-ne0
 returns c =
-    let a = c.before.before.before.before.args in
-    let h = delete-refused a.shapes.now a.anchors.now a.which.now 7 0 (not-whole a.shapes.now a.anchors.now a.which.now c.if1.true) in
+    let a = c.args in
+    let h = delete-refused a.shapes.now a.anchors.now a.which.now 7 0 (not-whole a.shapes.now a.anchors.now a.which.now c.if-which-ne0.true) in
     (h.0, (h.1, h.2))
 
 -- the references are whole pairs
-pairs : (c : tie.Else1) → whole_pairs c.before.before.before.before.args.which.now ≡ true
-pairs c = whole c.before.before.before.before.args.which.now c.if1.false
+pairs : (c : tie.Else-which-ne0) → whole_pairs c.args.which.now ≡ true
+pairs c = whole c.args.which.now c.if-which-ne0.false
 
-returns-2 : tie.Need-returns-2
+returns-2 : tie.Need-returns-in-Refused
 returns-2 c =
-    let p = c.before.before.before in
+    let p = c.before in
     let e = p.before.before.before in
-    let a = e.before.before.before.before.args in
-    let h = delete-refused a.shapes.now a.anchors.now a.which.now _ _ (not_opened a.shapes.now a.anchors.now a.which.now (pairs e) _ _ (sym p.open-path.ensures ∙ c.before.opened.given.1)) in
+    let a = e.args in
+    let h = delete-refused a.shapes.now a.anchors.now a.which.now _ _ (not_opened a.shapes.now a.anchors.now a.which.now (pairs c.before.before) _ _ (sym p.open_path-opened.ensures ∙ c.in-Refused.is)) in
     (h.0, (h.1, h.2))
 
-delete-opened-requires : tie.Need-delete-opened-requires
+delete-opened-requires : tie.Need-delete_opened-requires
 delete-opened-requires c κs =
     let t = c.before.before in
-    let p = t.before.before in
+    let p = t.before in
     let e = p.before.before.before in
-    let a = e.before.before.before.before.args in
-    let o = sym p.open-path.ensures ∙ t.enum_told.given.1 in
-    (pairs e, o ∙ ap Anchors (path_opens 512 a.shapes.now a.anchors.now _ o).count)
+    let a = e.args in
+    let o = sym p.open_path-opened.ensures ∙ t.in-Anchors.is in
+    (pairs c.before.before.before.before, o ∙ ap Anchors (path_opens 512 a.shapes.now a.anchors.now _ o).count)
 
-pub delete-spec : {M : Type 1} → statement M
-delete-spec =
+pub delete_spec : {M : Type 1} → statement M
+delete_spec =
     tie.close
     (tie.spec
     returns

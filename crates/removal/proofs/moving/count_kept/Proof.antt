@@ -10,35 +10,35 @@ use Rattle.removal.specs.Marks.{kept_at}
 use Rattle.removal.proofs.moving.count_kept.Statement.{statement}
 use Rattle.removal.proofs.moving.count_kept.Tie as tie
 
-abbrev invariant-loop : tie.invariant-loop
+abbrev invariant-loop : tie.invariant-loop-k
 invariant-loop gone first n kept₀ k₀ kept k = (k ≤ n) × (kept ≤ k) × (kept ≡ count (λ i. kept_at gone (first + i)) k)
 
-abbrev decreases-loop : tie.decreases-loop
+abbrev decreases-loop : tie.decreases-loop-k
 decreases-loop gone first n kept₀ k₀ kept k = n - k
 
-loop-holds : tie.Need-loop-init invariant-loop decreases-loop
+loop-holds : tie.Need-loop-k-init invariant-loop decreases-loop
 unfolding count
 loop-holds c = (omega arith, omega arith, refl)
 
-loop-again : tie.Need-loop-preserved invariant-loop decreases-loop
+loop-again : tie.Need-loop-k-preserved-then-gone-first invariant-loop decreases-loop
 loop-again c =
-    let l = c.before.before.before.loop in
-    (omega arith, omega arith, l.invariant.2 ∙ count_same _ l.k (ap not c.if1.true))
+    let l = c.loop-k in
+    (omega arith, omega arith, l.invariant.2 ∙ count_same _ l.k (ap not c.if-gone-first.true))
 
-loop-again-2 : tie.Need-loop-preserved-2 invariant-loop decreases-loop
+loop-again-2 : tie.Need-loop-k-preserved invariant-loop decreases-loop
 loop-again-2 c =
-    let l = c.before.before.before.loop in
-    let a = c.before.before.before.before.args in
-    (omega arith, omega arith, omega (arith, l.invariant.2, count_more (λ i. kept_at a.gone.now (a.first + i)) l.k (ap not c.if1.false)))
+    let l = c.loop-k in
+    let a = c.args in
+    (omega arith, omega arith, omega (arith, l.invariant.2, count_more (λ i. kept_at a.gone.now (a.first + i)) l.k (ap not c.if-gone-first.false)))
 
 returns : tie.Need-returns invariant-loop decreases-loop
 returns c =
-    let l = c.before.loop in
-    let e : l.k ≡ c.before.before.args.n = omega arith in
+    let l = c.loop-k in
+    let e : l.k ≡ c.args.n = omega arith in
     rw (← e) l.invariant.2
 
-pub count-kept-spec : {M : Type 1} → statement M
-count-kept-spec =
+pub count_kept_spec : {M : Type 1} → statement M
+count_kept_spec =
     tie.close
     (tie.spec
     invariant-loop

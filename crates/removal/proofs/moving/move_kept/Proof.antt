@@ -18,36 +18,36 @@ use Rattle.removal.proofs.Moved.{at_past, put_one}
 use Rattle.removal.proofs.moving.move_kept.Statement.{statement}
 use Rattle.removal.proofs.moving.move_kept.Tie as tie
 
-abbrev invariant-loop : tie.invariant-loop
+abbrev invariant-loop : tie.invariant-loop-k
 invariant-loop anchors₀ gone first n at next₀ k₀ anchors next k =
     let ps = retained (λ i. kept_at gone (first + i)) (λ i. anchor_at anchors₀ (first + i)) k in
     (k ≤ n) × (next ≤ first + k) × (length anchors ≡ length anchors₀) × (next ≡ at + length ps) × (anchors ≡ put_all anchors₀ at ps)
     × ((j : ℕ) → next * 6 ≤ j → entry anchors j ≡ entry anchors₀ j)
 
-abbrev decreases-loop : tie.decreases-loop
+abbrev decreases-loop : tie.decreases-loop-k
 decreases-loop anchors₀ gone first n at next₀ k₀ anchors next k = n - k
 
-loop-holds : tie.Need-loop-init invariant-loop decreases-loop
+loop-holds : tie.Need-loop-k-init invariant-loop decreases-loop
 unfolding retained put_all
 loop-holds c = (omega arith, omega arith, refl, omega arith, refl, λ j h. refl)
 
-loop-again : tie.Need-loop-preserved invariant-loop decreases-loop
+loop-again : tie.Need-loop-k-preserved-then-gone-first invariant-loop decreases-loop
 loop-again c =
-    let l = c.before.before.before.loop in
-    let a = c.before.before.before.before.before.before.args in
-    let e = retained_gone (λ i. kept_at a.gone.now (a.first + i)) (λ i. anchor_at a.anchors.now (a.first + i)) l.k (ap not c.if1.true) in
+    let l = c.loop-k in
+    let a = c.args in
+    let e = retained_gone (λ i. kept_at a.gone.now (a.first + i)) (λ i. anchor_at a.anchors.now (a.first + i)) l.k (ap not c.if-gone-first.true) in
     (omega arith, omega arith, l.invariant.2, rw e l.invariant.3, rw e l.invariant.4, l.invariant.5)
 
-loop-again-2 : tie.Need-loop-preserved-2 invariant-loop decreases-loop
+loop-again-2 : tie.Need-loop-k-preserved invariant-loop decreases-loop
 loop-again-2 c =
-    let p = c.before.before.put-anchor in
-    let r = c.before.before.before.before.anchor-at in
+    let p = c.put_anchor in
+    let r = c.anchor_at-a in
     let t = c.before.before.before.before.before.before in
-    let l = t.before.before.before.loop in
-    let a = t.before.before.before.before.before.before.args in
+    let l = c.loop-k in
+    let a = t.args in
     let keep : ℕ → Bool = λ i. kept_at a.gone.now (a.first + i) in
     let f : ℕ → Anchor = λ i. anchor_at a.anchors.now (a.first + i) in
-    let e = retained_kept keep f l.k (ap not t.if1.false) in
+    let e = retained_kept keep f l.k (ap not c.if-gone-first.false) in
     let same : anchor_at l.anchors (a.first + l.k) ≡ f l.k = at_past l.anchors a.anchors.now l.next (a.first + l.k) (omega arith) l.invariant.5 in
     let n = ap length e ∙ length-append (retained keep f l.k) (f l.k ∷ []) in (
       omega arith,
@@ -60,12 +60,12 @@ loop-again-2 c =
 
 returns : tie.Need-returns invariant-loop decreases-loop
 returns c =
-    let l = c.before.loop in
-    let e : l.k ≡ c.before.before.before.before.args.n = omega arith in
+    let l = c.loop-k in
+    let e : l.k ≡ c.args.n = omega arith in
     rw (← e) l.invariant.4
 
-pub move-kept-spec : {M : Type 1} → statement M
-move-kept-spec =
+pub move_kept_spec : {M : Type 1} → statement M
+move_kept_spec =
     tie.close
     (tie.spec
     invariant-loop

@@ -3,13 +3,13 @@ use Rattle.removal.specs.Deleted.{suffices}
 use Rattle.removal.proofs.moving.suffices.Statement.{statement}
 use Rattle.removal.proofs.moving.suffices.Tie as tie
 
-returns : tie.Need-returns
+returns : tie.Need-returns-then-closed
 unfolding suffices
-returns c = rw c.if1.true
+returns c = rw c.if-closed.true
 
-returns-2 : tie.Need-returns-2
+returns-2 : tie.Need-returns
 unfolding suffices
-returns-2 c = rw c.if1.false
+returns-2 c = rw c.if-closed.false
 
-pub suffices-spec : {M : Type 1} → statement M
-suffices-spec = tie.close (tie.spec returns returns-2)
+pub suffices_spec : {M : Type 1} → statement M
+suffices_spec = tie.close (tie.spec returns returns-2)

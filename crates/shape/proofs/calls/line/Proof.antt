@@ -1,30 +1,29 @@
 -- `shape::calls::line` meets its contract: each return cites what the tests before it found. Assumes nothing.
-use mathlib.Core.Path.{◌≡◌, sym, ◌∙◌}
-use mathlib.Core.Bool.{true, false, ◌&&◌}
+use mathlib.Core.Path.{sym, ◌∙◌}
+use mathlib.Core.Bool.{false}
 use native.Mathlib.Omega.{arith}
 use borrow.Author.Rules.{rules}
-use borrow.Author.Tests.{not-true, not-false}
 use Rattle.shape.proofs.Put.{line-count}
 use Rattle.shape.proofs.Handed.{shape_refused, shape_handed}
 use Rattle.shape.proofs.calls.line.Statement.{statement}
 use Rattle.shape.proofs.calls.line.Tie as tie
 
-returns : tie.Need-returns
+returns : tie.Need-returns-then-not-pair_in_limit
 returns c =
-    let h = shape_refused _ _ false _ _ (sym c.before.pair-in-limit.ensures ∙ not-true _ c.if1.true) in
+    let h = shape_refused _ _ false _ _ (sym c.pair_in_limit.ensures ∙ c.if-not-pair_in_limit.true) in
     (h.0, (h.1, h.2))
 
-returns-2 : tie.Need-returns-2
+returns-2 : tie.Need-returns
 returns-2 c =
-    let o = c.before.before.before.before.hand-over-one.ensures in
+    let o = c.hand_over_one.ensures in
     let g = c.before.before.before.before.before.before.before.before.before.before.before in
     let h =
-    shape_handed _ _ false _ _ (sym g.pair-in-limit.ensures ∙ not-false _ c.before.before.before.before.before.before.before.before.before.before.if1.false) 2 (omega arith) _ _ (line-count _ _) (omega arith)
-    c.before.before.before.before.before.before.before.before.put-line.ensures in
+    shape_handed _ _ false _ _ (sym g.pair_in_limit.ensures ∙ c.if-not-pair_in_limit.false) 2 (omega arith) _ _ (line-count _ _) (omega arith)
+    c.put_line.ensures in
     (o.0 ∙ h.0, (o.1.0 ∙ h.1, o.1.1 ∙ h.2))
 
-pub line-spec : {M : Type 1} → statement M
-line-spec =
+pub line_spec : {M : Type 1} → statement M
+line_spec =
     tie.close
     (tie.spec
     (λ c κs. tt)

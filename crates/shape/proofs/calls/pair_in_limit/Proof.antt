@@ -3,13 +3,13 @@ use Rattle.shape.specs.Calls.{pair_in}
 use Rattle.shape.proofs.calls.pair_in_limit.Statement.{statement}
 use Rattle.shape.proofs.calls.pair_in_limit.Tie as tie
 
-returns : tie.Need-returns
+returns : tie.Need-returns-then-in_limit
 unfolding pair_in
-returns c = rw (← c.before.before.in_limit_lem.ensures, c.before.if1.true) c.in-limit2.ensures
+returns c = rw (← c.in_limit.ensures, c.if-in_limit.true) c.in_limit-then-in_limit.ensures
 
-returns-2 : tie.Need-returns-2
+returns-2 : tie.Need-returns-else-in_limit
 unfolding pair_in
-returns-2 c = rw (← c.before.in_limit_lem.ensures, c.if1.false)
+returns-2 c = rw (← c.in_limit.ensures, c.if-in_limit.false)
 
-pub pair-in-limit-spec : {M : Type 1} → statement M
-pair-in-limit-spec = tie.close (tie.spec (λ c κs. tt) (λ c κs. tt) returns returns-2)
+pub pair_in_limit_spec : {M : Type 1} → statement M
+pair_in_limit_spec = tie.close (tie.spec (λ c κs. tt) (λ c κs. tt) returns returns-2)

@@ -5,7 +5,7 @@ use Rattle.shape.proofs.outlines.beside.Tie as tie
 
 returns : tie.Need-returns
 unfolding beside
-returns c = rw (c.add2.ensures, c.before.add.ensures)
+returns c = rw (c.add-2.ensures, c.add.ensures)
 
-pub beside-spec : {M : Type 1} → statement M
-beside-spec = tie.close (tie.spec (λ c κs. tt) (λ c κs. tt) returns)
+pub beside_spec : {M : Type 1} → statement M
+beside_spec = tie.close (tie.spec (λ c κs. tt) (λ c κs. tt) returns)

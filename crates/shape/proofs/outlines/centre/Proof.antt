@@ -5,7 +5,7 @@ use Rattle.shape.proofs.outlines.centre.Tie as tie
 
 returns : tie.Need-returns
 unfolding centre
-returns c = rw (c.mul.ensures, c.before.add.ensures)
+returns c = rw (c.mul.ensures, c.add.ensures)
 
-pub centre-spec : {M : Type 1} → statement M
-centre-spec = tie.close (tie.spec (λ c κs. tt) (λ c κs. tt) returns)
+pub centre_spec : {M : Type 1} → statement M
+centre_spec = tie.close (tie.spec (λ c κs. tt) (λ c κs. tt) returns)

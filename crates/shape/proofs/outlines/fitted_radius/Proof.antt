@@ -5,7 +5,7 @@ use Rattle.shape.proofs.outlines.fitted_radius.Tie as tie
 
 returns : tie.Need-returns
 unfolding fitted_radius
-returns c = rw (c.min2.ensures, c.before.before.before.min.ensures, c.before.before.before.before.before.before.max.ensures)
+returns c = rw (c.min-2.ensures, c.min.ensures, c.max.ensures)
 
-pub fitted-radius-spec : {M : Type 1} → statement M
-fitted-radius-spec = tie.close (tie.spec (λ c κs. tt) (λ c κs. tt) (λ c κs. tt) returns)
+pub fitted_radius_spec : {M : Type 1} → statement M
+fitted_radius_spec = tie.close (tie.spec (λ c κs. tt) (λ c κs. tt) (λ c κs. tt) returns)

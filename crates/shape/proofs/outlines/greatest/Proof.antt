@@ -5,7 +5,7 @@ use Rattle.shape.proofs.outlines.greatest.Tie as tie
 
 returns : tie.Need-returns
 unfolding greatest
-returns c = rw (c.max2.ensures, c.before.max.ensures)
+returns c = rw (c.max-2.ensures, c.max.ensures)
 
-pub greatest-spec : {M : Type 1} → statement M
-greatest-spec = tie.close (tie.spec (λ c κs. tt) (λ c κs. tt) returns)
+pub greatest_spec : {M : Type 1} → statement M
+greatest_spec = tie.close (tie.spec (λ c κs. tt) (λ c κs. tt) returns)

@@ -5,7 +5,7 @@ use Rattle.shape.proofs.outlines.least.Tie as tie
 
 returns : tie.Need-returns
 unfolding least
-returns c = rw (c.min2.ensures, c.before.min.ensures)
+returns c = rw (c.min-2.ensures, c.min.ensures)
 
-pub least-spec : {M : Type 1} → statement M
-least-spec = tie.close (tie.spec (λ c κs. tt) (λ c κs. tt) returns)
+pub least_spec : {M : Type 1} → statement M
+least_spec = tie.close (tie.spec (λ c κs. tt) (λ c κs. tt) returns)

@@ -7,7 +7,7 @@ use Rattle.shape.proofs.outlines.put_ellipse.Tie as tie
 returns : tie.Need-returns
 unfolding ellipse_around
 returns c =
-    rw (c.put_four.ensures, c.before.through4.ensures, c.before.before.before.through3.ensures, c.before.before.before.before.before.through2.ensures, c.before.before.before.before.before.before.before.through.ensures)
+    rw (c.put_four.ensures, c.through-4.ensures, c.through-3.ensures, c.through-2.ensures, c.through.ensures)
 
-pub put-ellipse-spec : {M : Type 1} → statement M
-put-ellipse-spec = tie.close (tie.spec (λ c κs. tt) (λ c κs. tt) (λ c κs. tt) (λ c κs. tt) (λ c κs. search rules) returns)
+pub put_ellipse_spec : {M : Type 1} → statement M
+put_ellipse_spec = tie.close (tie.spec (λ c κs. tt) (λ c κs. tt) (λ c κs. tt) (λ c κs. tt) (λ c κs. search rules) returns)

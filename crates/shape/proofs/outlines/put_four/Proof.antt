@@ -7,13 +7,13 @@ use Rattle.shape.proofs.outlines.put_four.Tie as tie
 returns : tie.Need-returns
 returns c =
     put-four-is _ _ _ _ _ _ _ _ _ _
-    c.before.before.before.before.before.before.put-anchor.ensures
-    c.before.before.before.before.put-anchor2.ensures
-    c.before.before.put-anchor3.ensures
-    c.put-anchor4.ensures
+    c.put_anchor.ensures
+    c.put_anchor-2.ensures
+    c.put_anchor-3.ensures
+    c.put_anchor-4.ensures
 
-pub put-four-spec : {M : Type 1} → statement M
-put-four-spec =
+pub put_four_spec : {M : Type 1} → statement M
+put_four_spec =
     tie.close
     (tie.spec
     (λ c κs. search rules)

@@ -8,7 +8,7 @@ use Rattle.shape.proofs.outlines.put_line.Tie as tie
 returns : tie.Need-returns
 unfolding put_all line_anchors
 returns c =
-    rw (c.put-anchor2.ensures, c.before.corner2.ensures, c.before.before.before.put-anchor.ensures, c.before.before.before.before.corner.ensures)
+    rw (c.put_anchor-2.ensures, c.corner-2.ensures, c.put_anchor.ensures, c.corner.ensures)
 
-pub put-line-spec : {M : Type 1} → statement M
-put-line-spec = tie.close (tie.spec (λ c κs. tt) (λ c κs. search rules) (λ c κs. tt) (λ c κs. search rules) returns)
+pub put_line_spec : {M : Type 1} → statement M
+put_line_spec = tie.close (tie.spec (λ c κs. tt) (λ c κs. search rules) (λ c κs. tt) (λ c κs. search rules) returns)

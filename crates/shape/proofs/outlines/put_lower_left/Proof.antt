@@ -7,7 +7,7 @@ use Rattle.shape.proofs.outlines.put_lower_left.Tie as tie
 returns : tie.Need-returns
 unfolding lower_left
 returns c =
-    rw (c.put_four.ensures, c.before.beside4.ensures, c.before.before.beside3.ensures, c.before.before.before.beside2.ensures, c.before.before.before.before.beside.ensures)
+    rw (c.put_four.ensures, c.beside-4.ensures, c.beside-3.ensures, c.beside-2.ensures, c.beside.ensures)
 
-pub put-lower-left-spec : {M : Type 1} → statement M
-put-lower-left-spec = tie.close (tie.spec (λ c κs. tt) (λ c κs. tt) (λ c κs. tt) (λ c κs. tt) (λ c κs. search rules) returns)
+pub put_lower_left_spec : {M : Type 1} → statement M
+put_lower_left_spec = tie.close (tie.spec (λ c κs. tt) (λ c κs. tt) (λ c κs. tt) (λ c κs. tt) (λ c κs. search rules) returns)

@@ -7,7 +7,7 @@ use Rattle.shape.proofs.outlines.put_rounded.Tie as tie
 
 returns : tie.Need-returns
 unfolding rounded
-returns c = put_next _ _ _ 0 4 _ _ (upper_right_count _ _ _ _) c.before.before.put-upper-right.ensures c.put-lower-left.ensures
+returns c = put_next _ _ _ 0 4 _ _ (upper_right_count _ _ _ _) c.put_upper_right.ensures c.put_lower_left.ensures
 
-pub put-rounded-spec : {M : Type 1} → statement M
-put-rounded-spec = tie.close (tie.spec (λ c κs. tt) (λ c κs. tt) returns)
+pub put_rounded_spec : {M : Type 1} → statement M
+put_rounded_spec = tie.close (tie.spec (λ c κs. tt) (λ c κs. tt) returns)

@@ -7,7 +7,7 @@ use Rattle.shape.proofs.outlines.put_sharp.Tie as tie
 returns : tie.Need-returns
 unfolding sharp
 returns c =
-    rw (c.put_four.ensures, c.before.corner4.ensures, c.before.before.corner3.ensures, c.before.before.before.corner2.ensures, c.before.before.before.before.corner.ensures)
+    rw (c.put_four.ensures, c.corner-4.ensures, c.corner-3.ensures, c.corner-2.ensures, c.corner.ensures)
 
-pub put-sharp-spec : {M : Type 1} → statement M
-put-sharp-spec = tie.close (tie.spec (λ c κs. tt) (λ c κs. tt) (λ c κs. tt) (λ c κs. tt) (λ c κs. search rules) returns)
+pub put_sharp_spec : {M : Type 1} → statement M
+put_sharp_spec = tie.close (tie.spec (λ c κs. tt) (λ c κs. tt) (λ c κs. tt) (λ c κs. tt) (λ c κs. search rules) returns)

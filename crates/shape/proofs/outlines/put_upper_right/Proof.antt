@@ -7,7 +7,7 @@ use Rattle.shape.proofs.outlines.put_upper_right.Tie as tie
 returns : tie.Need-returns
 unfolding upper_right
 returns c =
-    rw (c.put_four.ensures, c.before.beside4.ensures, c.before.before.beside3.ensures, c.before.before.before.beside2.ensures, c.before.before.before.before.beside.ensures)
+    rw (c.put_four.ensures, c.beside-4.ensures, c.beside-3.ensures, c.beside-2.ensures, c.beside.ensures)
 
-pub put-upper-right-spec : {M : Type 1} → statement M
-put-upper-right-spec = tie.close (tie.spec (λ c κs. tt) (λ c κs. tt) (λ c κs. tt) (λ c κs. tt) (λ c κs. search rules) returns)
+pub put_upper_right_spec : {M : Type 1} → statement M
+put_upper_right_spec = tie.close (tie.spec (λ c κs. tt) (λ c κs. tt) (λ c κs. tt) (λ c κs. tt) (λ c κs. search rules) returns)

@@ -7,5 +7,5 @@ returns : tie.Need-returns
 unfolding semi_axis
 returns c = rw c.abs.ensures
 
-pub semi-axis-spec : {M : Type 1} → statement M
-semi-axis-spec = tie.close (tie.spec (λ c κs. tt) returns)
+pub semi_axis_spec : {M : Type 1} → statement M
+semi_axis_spec = tie.close (tie.spec (λ c κs. tt) returns)

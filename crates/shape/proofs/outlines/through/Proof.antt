@@ -5,7 +5,7 @@ use Rattle.shape.proofs.outlines.through.Tie as tie
 
 returns : tie.Need-returns
 unfolding through
-returns c = rw (c.add.ensures, c.before.sub.ensures)
+returns c = rw (c.add.ensures, c.sub.ensures)
 
-pub through-spec : {M : Type 1} → statement M
-through-spec = tie.close (tie.spec (λ c κs. tt) (λ c κs. tt) returns)
+pub through_spec : {M : Type 1} → statement M
+through_spec = tie.close (tie.spec (λ c κs. tt) (λ c κs. tt) returns)

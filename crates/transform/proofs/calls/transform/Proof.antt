@@ -6,7 +6,6 @@ use native.Mathlib.Omega.{arith}
 use lib.Dec.{T}
 use lib.ListN.{length}
 use borrow.Author.Rules.{rules}
-use borrow.Author.Tests.{not-false}
 use Rattle.views.specs.View.{overwrite}
 use Rattle.refusal.specs.Order.{passes}
 use Rattle.path.specs.Shape.{total}
@@ -22,67 +21,67 @@ use Rattle.transform.proofs.calls.transform.Statement.{statement}
 use Rattle.transform.proofs.calls.transform.Tie as tie
 
 -- 7, 5 and 9 pass
-found : (c : tie.Else1) → let a = c.before.before.before.before.before.before.args in
+found : (c : tie.Else-not-all_but_room) → let a = c.args in
     (opened_path 512 a.shapes.now a.anchors.now ≡ Anchors (total a.shapes.now)) × (map_in a.m ≡ true) × (outline_limit (mapped_path a.m a.shapes.now a.anchors.now) ≡ passes)
-found c = c.before.all-but-room.ensures (subst T (sym (not-false c.before.all-but-room.result c.if1.false)) tt)
+found c = c.all_but_room.ensures (subst T (sym (c.if-not-all_but_room.false)) tt)
 
-opens : (c : tie.Else1) → let a = c.before.before.before.before.before.before.args in PathOpens 512 a.shapes.now a.anchors.now (total a.shapes.now)
+opens : (c : tie.Else-not-all_but_room) → let a = c.args in PathOpens 512 a.shapes.now a.anchors.now (total a.shapes.now)
 opens c = path_opens 512 _ _ _ (found c).0
 
-total-of-requires : tie.Need-total-of-requires
+total-of-requires : tie.Need-total_of-count-requires
 total-of-requires c κs = (opens c).words
 
-returns-2 : tie.Need-returns-2
+returns-2 : tie.Need-returns-then-to_shapes-shapes
 returns-2 c =
     let s = c.before.before in
-    let a = s.before.before.before.before.before.before.args in
+    let a = s.args in
     let f = found s in
-    let h = refused_so _ _ _ _ _ 8 0 (no_room _ _ _ _ _ _ (opens s) f.1 f.2 (few_words (length a.shapes.now) _ a.to-shapes.now _ (omega arith))) in
+    let h = refused_so _ _ _ _ _ 8 0 (no_room _ _ _ _ _ _ (opens s) f.1 f.2 (few_words (length a.shapes.now) _ a.to_shapes.now _ (omega arith))) in
     (h.0, (h.1, h.2))
 
-mul-if3 : tie.Need-overflow-mul-if3
+mul-if3 : tie.Need-overflow_mul-count
 mul-if3 c =
     let o = opens c.before.before in
-    let n = c.before.total_of.ensures in
+    let n = c.before.total_of-count.ensures in
     let f = o.few in
     record { fits = omega arith }
 
-returns-3 : tie.Need-returns-3
+returns-3 : tie.Need-returns-then-to-count
 returns-3 c =
     let s = c.before.before.before in
-    let a = s.before.before.before.before.before.before.args in
+    let a = s.args in
     let f = found s in
-    let n = c.before.before.total_of.ensures in
+    let n = c.total_of-count.ensures in
     let h = refused_so _ _ _ _ _ 8 0 (no_room _ _ _ _ _ _ (opens s) f.1 f.2 (few_numbers _ (total a.shapes.now) _ a.to.now (omega (arith, n)))) in
     (h.0, (h.1, h.2))
 
-map-anchors-requires : tie.Need-map-anchors-requires
+map-anchors-requires : tie.Need-map_anchors-requires
 map-anchors-requires c κs =
     let p = c.before.before.before.before.before.before.before in
     let o = opens p.before in
-    let n = p.total_of.ensures in
+    let n = p.total_of-count.ensures in
     let f = o.few in
     let l = o.long in
     (omega arith, omega arith, omega arith)
 
-returns-4 : tie.Need-returns-4
+returns-4 : tie.Need-returns
 returns-4 c =
     let w = c.before.before in
     let p = w.before.before.before.before.before.before.before.before in
-    let a = p.before.before.before.before.before.before.before.args in
+    let a = p.args in
     let s = p.before in
-    let n = p.total_of.ensures in
+    let n = p.total_of-count.ensures in
     let f = found s in
-    let h = written _ _ _ _ _ _ (opens s) f.1 f.2 (room (length a.shapes.now) (total a.shapes.now) a.to-shapes.now a.to.now (omega arith) (omega (arith, n))) in (
+    let h = written _ _ _ _ _ _ (opens s) f.1 f.2 (room (length a.shapes.now) (total a.shapes.now) a.to_shapes.now a.to.now (omega arith) (omega (arith, n))) in (
       ap (Accepted (length a.shapes.now)) n ∙ h.0,
       (
-        w.before.before.before.before.copy-words.ensures ∙ h.1,
-        w.map-anchors.ensures ∙ ap (λ k. overwrite (k * 6) (anchor_numbers (mapped_at a.m a.anchors.now)) a.to.now) n ∙ h.2,
+        w.copy_words.ensures ∙ h.1,
+        w.map_anchors.ensures ∙ ap (λ k. overwrite (k * 6) (anchor_numbers (mapped_at a.m a.anchors.now)) a.to.now) n ∙ h.2,
       ),
     )
 
-pub transform-spec : {M : Type 1} → statement M
-transform-spec =
+pub transform_spec : {M : Type 1} → statement M
+transform_spec =
     tie.close
     (tie.spec
     (λ c κs. tt)

@@ -1,6 +1,6 @@
 -- `transform::mapping::map_anchors` meets its contract: the anchors before k are mapped, and the rest is as it was. Assumes nothing.
-use mathlib.Core.Path.{◌≡◌, refl, ap, sym, ◌∙◌}
-use Prim.Native.Nat.{ℕ, ◌+◌, ◌-◌, ◌*◌, ◌≤◌, ◌<◌}
+use mathlib.Core.Path.{◌≡◌, refl, ap, ◌∙◌}
+use Prim.Native.Nat.{ℕ, ◌-◌, ◌*◌, ◌≤◌, ◌<◌}
 use native.Mathlib.Omega.{arith}
 use lib.ListN.{length}
 use lib.Ieee.{nan}
@@ -14,27 +14,27 @@ use Rattle.transform.specs.Mapped.{mapped, mapped_at}
 use Rattle.transform.proofs.mapping.map_anchors.Statement.{statement}
 use Rattle.transform.proofs.mapping.map_anchors.Tie as tie
 
-abbrev invariant-loop : tie.invariant-loop
+abbrev invariant-loop : tie.invariant-loop-k
 invariant-loop m anchors n made₀ k₀ made k =
     (k ≤ n) × (length made ≡ length made₀)
     × ((j : ℕ) → j < k * 6 → entry made j ≡ anchor_numbers (mapped_at m anchors) j) × ((j : ℕ) → k * 6 ≤ j → entry made j ≡ entry made₀ j)
 
-abbrev decreases-loop : tie.decreases-loop
+abbrev decreases-loop : tie.decreases-loop-k
 decreases-loop m anchors n made₀ k₀ made k = n - k
 
 -- what is put is the anchor at place k, mapped
-value : (c : tie.After-mapped invariant-loop decreases-loop) → let a = c.before.before.before.before.before.before.before.args in c.mapped.result ≡ mapped_at a.m a.anchors.now c.before.before.before.before.loop.k
+value : (c : tie.After-mapped invariant-loop decreases-loop) → let a = c.args in c.mapped.result ≡ mapped_at a.m a.anchors.now c.loop-k.k
 unfolding mapped_at
-value c = c.mapped.ensures ∙ ap (mapped c.before.before.before.before.before.before.before.args.m) c.before.before.anchor-at.ensures
+value c = c.mapped.ensures ∙ ap (mapped c.args.m) c.anchor_at-a.ensures
 
-loop-again : tie.Need-loop-preserved invariant-loop decreases-loop
+loop-again : tie.Need-loop-k-preserved invariant-loop decreases-loop
 loop-again c =
     let p = c.before.before in
-    let l = p.before.before.before.before.before.loop in
+    let l = p.loop-k in
     let s = p.before.before.before.before.before.before.before.before in
     let a = s.args in
-    let v = p.before.mapped.result in
-    let e = p.put-anchor.ensures in
+    let v = p.mapped.result in
+    let e = p.put_anchor.ensures in
     let same = ap length e ∙ length-put l.made l.k v in (
       omega arith,
       same ∙ l.invariant.1,
@@ -44,12 +44,12 @@ loop-again c =
 
 returns : tie.Need-returns invariant-loop decreases-loop
 returns c =
-    let a = c.before.before.before.before.args in
-    let l = c.before.loop in
+    let a = c.args in
+    let l = c.loop-k in
     as_overwrite nan l.made a.made.now (a.n * 6) _ l.invariant.1 (λ j h. l.invariant.2 j (omega arith)) (λ j h. l.invariant.3 j (omega arith))
 
-pub map-anchors-spec : {M : Type 1} → statement M
-map-anchors-spec =
+pub map_anchors_spec : {M : Type 1} → statement M
+map_anchors_spec =
     tie.close
     (tie.spec
     invariant-loop

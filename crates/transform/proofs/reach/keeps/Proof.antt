@@ -3,7 +3,7 @@ use Rattle.transform.proofs.reach.keeps.Statement.{statement}
 use Rattle.transform.proofs.reach.keeps.Tie as tie
 
 returns : tie.Need-returns
-returns c = rw (c.in_limit_lem.ensures, c.before.abs3.ensures, c.before.before.abs2.ensures, c.before.before.before.abs.ensures)
+returns c = rw (c.in_limit.ensures, c.abs-3.ensures, c.abs-2.ensures, c.abs.ensures)
 
 pub keeps_spec : {M : Type 1} → statement M
 keeps_spec = tie.close (tie.spec (λ c κs. tt) (λ c κs. tt) (λ c κs. tt) (λ c κs. tt) returns)

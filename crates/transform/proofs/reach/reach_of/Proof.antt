@@ -7,10 +7,10 @@ use Rattle.transform.proofs.reach.reach_of.Statement.{statement}
 use Rattle.transform.proofs.reach.reach_of.Tie as tie
 
 returns : tie.Need-returns
-returns c = c.abs5.ensures ∙ sym (abs_again _) ∙ ap abs (sym c.abs5.ensures)
+returns c = c.abs-5.ensures ∙ sym (abs_again _) ∙ ap abs (sym c.abs-5.ensures)
 
-pub reach-of-spec : {M : Type 1} → statement M
-reach-of-spec =
+pub reach_of_spec : {M : Type 1} → statement M
+reach_of_spec =
     tie.close
     (tie.spec
     (λ c. search rules)
