@@ -1,4 +1,6 @@
 // How the C interface hands over what a call answers (include/outline.h).
+#![tactic(auto)]
+
 mod telling;
 
 pub use telling::{

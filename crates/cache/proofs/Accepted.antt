@@ -93,8 +93,8 @@ module _ (shapes : List ℕ) (anchors radii : List Float) (kind : ℕ) where
       let t = nine_says _ _ _ _ _ _ k e in
       drawn_by shapes anchors radii kind (both (cache_fits shapes numbers flags) (drawing_fits shapes anchors radii) (holds_says _ 0 t.0)).1 t.1
 
-  pub cut_nine_says : (toShapes : List ℕ) (to : List Float) (k : ℕ) → cut_verdict shapes anchors radii kind toShapes to ≡ refused 9 k → Drawn shapes anchors radii kind
+  pub cut_nine_says : (to_shapes : List ℕ) (to : List Float) (k : ℕ) → cut_verdict shapes anchors radii kind to_shapes to ≡ refused 9 k → Drawn shapes anchors radii kind
   unfolding cut_verdict
-  cut_nine_says toShapes to k e =
+  cut_nine_says to_shapes to k e =
       let t = nine_says _ _ _ _ _ _ k e in
       drawn_by shapes anchors radii kind (holds_says _ 0 t.0) t.1

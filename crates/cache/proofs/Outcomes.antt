@@ -106,30 +106,30 @@ module _ (shapes : List ℕ) (anchors radii : List Float) (kind : ℕ) (numbers 
         build_flags_lem = rw (build-made, known)
 
 -- ---- `assemble`
-module _ (shapes : List ℕ) (numbers : List Float) (flags : List ℕ) (toShapes : List ℕ) (to : List Float) where
+module _ (shapes : List ℕ) (numbers : List Float) (flags : List ℕ) (to_shapes : List ℕ) (to : List Float) where
   pub assemble_lists : cache_fits shapes numbers flags ≡ false
-      → (Refused 7 0 ≡ assemble_answer shapes numbers flags toShapes to)
-      × (toShapes ≡ assemble_shapes shapes numbers flags toShapes to)
-      × (to ≡ assemble_anchors shapes numbers flags toShapes to)
+      → (Refused 7 0 ≡ assemble_answer shapes numbers flags to_shapes to)
+      × (to_shapes ≡ assemble_shapes shapes numbers flags to_shapes to)
+      × (to ≡ assemble_anchors shapes numbers flags to_shapes to)
   unfolding assemble_answer assemble_shapes assemble_anchors assemble_verdict
   assemble_lists e =
       let v = by_lists _ _ _ _ _ _ 0 (holds_false 0 e) in
       (outline-refused _ _ v, list_kept _ _ _ v, anchors_kept _ _ v)
 
   module _ (fit : cache_fits shapes numbers flags ≡ true) where
-    pub assemble-made : assemble_verdict shapes numbers flags toShapes to ≡ made_verdict (length shapes) (outline_of shapes (place_read numbers flags)) toShapes to
+    pub assemble-made : assemble_verdict shapes numbers flags to_shapes to ≡ made_verdict (length shapes) (outline_of shapes (place_read numbers flags)) to_shapes to
     unfolding assemble_verdict made_verdict judge holds held_outline
     assemble-made = in_order _ _ _ _ _ _ ∙ rw fit
 
-    pub assemble-answers : made_answer (length shapes) (outline_of shapes (place_read numbers flags)) toShapes to ≡ assemble_answer shapes numbers flags toShapes to
+    pub assemble-answers : made_answer (length shapes) (outline_of shapes (place_read numbers flags)) to_shapes to ≡ assemble_answer shapes numbers flags to_shapes to
     unfolding made_answer assemble_answer held_outline
     assemble-answers = rw assemble-made
 
-    pub assemble_shapes_lem : made_shapes (length shapes) (outline_of shapes (place_read numbers flags)) (outline_shapes shapes (place_read numbers flags)) toShapes to
-        ≡ assemble_shapes shapes numbers flags toShapes to
+    pub assemble_shapes_lem : made_shapes (length shapes) (outline_of shapes (place_read numbers flags)) (outline_shapes shapes (place_read numbers flags)) to_shapes to
+        ≡ assemble_shapes shapes numbers flags to_shapes to
     unfolding made_shapes assemble_shapes
     assemble_shapes_lem = rw assemble-made
 
-    pub assemble_anchors_lem : made_anchors (length shapes) (outline_of shapes (place_read numbers flags)) toShapes to ≡ assemble_anchors shapes numbers flags toShapes to
+    pub assemble_anchors_lem : made_anchors (length shapes) (outline_of shapes (place_read numbers flags)) to_shapes to ≡ assemble_anchors shapes numbers flags to_shapes to
     unfolding made_anchors assemble_anchors held_outline
     assemble_anchors_lem = rw assemble-made

@@ -119,7 +119,7 @@ module _ (shapes : List ℕ) (anchors radii : List Float) (kind : CornerKind) wh
 
 -- ---- (1) assembling a cache that was built is cutting: the same answer, the same lists, on acceptance and refusal
 module _ (shapes : List ℕ) (anchors radii : List Float) (kind : ℕ) (numbers : List Float) (flags : List ℕ)
-    (v : build_verdict shapes anchors radii kind numbers flags ≡ accepted) (toShapes : List ℕ) (to : List Float) where
+    (v : build_verdict shapes anchors radii kind numbers flags ≡ accepted) (to_shapes : List ℕ) (to : List Float) where
   abbrev built : Drawn shapes anchors radii kind
   built = (build_says shapes anchors radii kind numbers flags v).1
 
@@ -151,62 +151,62 @@ module _ (shapes : List ℕ) (anchors radii : List Float) (kind : ℕ) (numbers 
   laid = cached_laid shapes anchors radii built.way numbers flags fits.long fits.flag_each
 
   pub assemble-built :
-      (assemble_answer shapes (build_numbers shapes anchors radii kind numbers flags) (build_flags shapes anchors radii kind numbers flags) toShapes to ≡ cut_answer shapes anchors radii kind toShapes to)
-      × (assemble_shapes shapes (build_numbers shapes anchors radii kind numbers flags) (build_flags shapes anchors radii kind numbers flags) toShapes to ≡ cut_shapes_left shapes anchors radii kind toShapes to)
-      × (assemble_anchors shapes (build_numbers shapes anchors radii kind numbers flags) (build_flags shapes anchors radii kind numbers flags) toShapes to ≡ cut_anchors_left shapes anchors radii kind toShapes to)
+      (assemble_answer shapes (build_numbers shapes anchors radii kind numbers flags) (build_flags shapes anchors radii kind numbers flags) to_shapes to ≡ cut_answer shapes anchors radii kind to_shapes to)
+      × (assemble_shapes shapes (build_numbers shapes anchors radii kind numbers flags) (build_flags shapes anchors radii kind numbers flags) to_shapes to ≡ cut_shapes_left shapes anchors radii kind to_shapes to)
+      × (assemble_anchors shapes (build_numbers shapes anchors radii kind numbers flags) (build_flags shapes anchors radii kind numbers flags) to_shapes to ≡ cut_anchors_left shapes anchors radii kind to_shapes to)
   assemble-built =
       rw (numbers_built, flags_built) (
-        sym (assemble-answers shapes _ _ toShapes to still_fits) ∙ answer-laid shapes anchors radii built.way _ _ laid toShapes to ∙ answer-handed shapes anchors radii kind toShapes to _ built.opens _ built.known,
-        sym (assemble_shapes_lem shapes _ _ toShapes to still_fits) ∙ shapes_laid shapes anchors radii built.way _ _ laid toShapes to ∙ shapes_handed shapes anchors radii kind toShapes to _ built.opens _ built.known,
-        sym (assemble_anchors_lem shapes _ _ toShapes to still_fits) ∙ anchors_laid shapes anchors radii built.way _ _ laid toShapes to ∙ anchors_handed shapes anchors radii kind toShapes to _ built.opens _ built.known,
+        sym (assemble-answers shapes _ _ to_shapes to still_fits) ∙ answer-laid shapes anchors radii built.way _ _ laid to_shapes to ∙ answer-handed shapes anchors radii kind to_shapes to _ built.opens _ built.known,
+        sym (assemble_shapes_lem shapes _ _ to_shapes to still_fits) ∙ shapes_laid shapes anchors radii built.way _ _ laid to_shapes to ∙ shapes_handed shapes anchors radii kind to_shapes to _ built.opens _ built.known,
+        sym (assemble_anchors_lem shapes _ _ to_shapes to still_fits) ∙ anchors_laid shapes anchors radii built.way _ _ laid to_shapes to ∙ anchors_handed shapes anchors radii kind to_shapes to _ built.opens _ built.known,
       )
 
 -- ---- (2) where the cache's lists are long enough, `build` is refused 9 exactly where the plain cut is; one is numbered by the places, one by the path
 module _ (shapes : List ℕ) (anchors radii : List Float) (kind : ℕ) (numbers : List Float) (flags : List ℕ) (fit : cache_fits shapes numbers flags ≡ true)
-    (toShapes : List ℕ) (to : List Float) where
+    (to_shapes : List ℕ) (to : List Float) where
   module _ (d : Drawn shapes anchors radii kind) where
-    abbrev cutView : ℕ → View
-    cutView = view_at shapes anchors radii d.way
+    abbrev cut_view : ℕ → View
+    cut_view = view_at shapes anchors radii d.way
 
     abbrev ps : List Anchor
-    ps = outline_of shapes (place_of_path shapes cutView)
+    ps = outline_of shapes (place_of_path shapes cut_view)
 
     abbrev good : ℕ → Bool
-    good = cached_in (place_of_path shapes cutView)
+    good = cached_in (place_of_path shapes cut_view)
 
-    cut-made : cut_verdict shapes anchors radii kind toShapes to ≡ made_verdict (length shapes) ps toShapes to
+    cut-made : cut_verdict shapes anchors radii kind to_shapes to ≡ made_verdict (length shapes) ps to_shapes to
     cut-made =
-        as_made shapes anchors radii kind toShapes to (total shapes) d.opens d.way d.known
-        ∙ ap (λ z. made_verdict (length shapes) z toShapes to) (sym (outline-cut shapes anchors radii d.way))
+        as_made shapes anchors radii kind to_shapes to (total shapes) d.opens d.way d.known
+        ∙ ap (λ z. made_verdict (length shapes) z to_shapes to) (sym (outline-cut shapes anchors radii d.way))
 
     built_made : build_verdict shapes anchors radii kind numbers flags ≡ cache_verdict good (total shapes)
     built_made = build-made shapes anchors radii kind numbers flags fit (total shapes) d.opens d.way d.known
 
-    cut_too : (j : ℕ) → build_verdict shapes anchors radii kind numbers flags ≡ refused 9 j → (i : ℕ) × (cut_verdict shapes anchors radii kind toShapes to ≡ refused 9 i)
+    cut_too : (j : ℕ) → build_verdict shapes anchors radii kind numbers flags ≡ refused 9 j → (i : ℕ) × (cut_verdict shapes anchors radii kind to_shapes to ≡ refused 9 i)
     unfolding made_verdict outline_limit judge
     cut_too j e =
         ⊎_elim
-        (λ g. absurd (refusing 9 j (sym e ∙ built_made ∙ cache_good good (total shapes) (outline_cached shapes cutView g))))
+        (λ g. absurd (refusing 9 j (sym e ∙ built_made ∙ cache_good good (total shapes) (outline_cached shapes cut_view g))))
         (λ il. (il.0, cut-made ∙ rw (places_fail (outline_in ps) (length ps) passes il.0 il.1)))
         (search_to (outline_in ps) (length ps))
 
-    build_too : (i : ℕ) → cut_verdict shapes anchors radii kind toShapes to ≡ refused 9 i → (j : ℕ) × (build_verdict shapes anchors radii kind numbers flags ≡ refused 9 j)
+    build_too : (i : ℕ) → cut_verdict shapes anchors radii kind to_shapes to ≡ refused 9 i → (j : ℕ) × (build_verdict shapes anchors radii kind numbers flags ≡ refused 9 j)
     unfolding made_verdict outline_limit judge
     build_too i e =
         ⊎_elim
-        (λ g. absurd (room-not_nine (holds (room_for (length shapes) (length ps) toShapes to) 0) i (rw (places_pass (outline_in ps) (length ps) passes (cached_outline shapes cutView g)) at (sym cut-made ∙ e))))
+        (λ g. absurd (room-not_nine (holds (room_for (length shapes) (length ps) to_shapes to) 0) i (rw (places_pass (outline_in ps) (length ps) passes (cached_outline shapes cut_view g)) at (sym cut-made ∙ e))))
         (λ jl. (jl.0, built_made ∙ cache_bad good (total shapes) jl.0 jl.1))
         (search_to good (total shapes))
 
-  pub nine_together : ((j : ℕ) × (build_verdict shapes anchors radii kind numbers flags ≡ refused 9 j)) ↔ ((i : ℕ) × (cut_verdict shapes anchors radii kind toShapes to ≡ refused 9 i))
+  pub nine_together : ((j : ℕ) × (build_verdict shapes anchors radii kind numbers flags ≡ refused 9 j)) ↔ ((i : ℕ) × (cut_verdict shapes anchors radii kind to_shapes to ≡ refused 9 i))
   nine_together = (
     λ je. cut_too (build_nine_says shapes anchors radii kind numbers flags je.0 je.1) je.0 je.1,
-    λ ie. build_too (cut_nine_says shapes anchors radii kind toShapes to ie.0 ie.1) ie.0 ie.1,
+    λ ie. build_too (cut_nine_says shapes anchors radii kind to_shapes to ie.0 ie.1) ie.0 ie.1,
   )
 
 -- ---- (3) any cache: as many anchors as places, and one more for each that is cut
-pub assembled_anchors : (shapes : List ℕ) (numbers : List Float) (flags : List ℕ) (toShapes : List ℕ) (to : List Float)
-    → assemble_verdict shapes numbers flags toShapes to ≡ accepted
-    → assemble_answer shapes numbers flags toShapes to ≡ Accepted (length shapes) (total shapes + count (λ k. leb 2147483648 (get_or flags k 0)) (total shapes))
+pub assembled_anchors : (shapes : List ℕ) (numbers : List Float) (flags : List ℕ) (to_shapes : List ℕ) (to : List Float)
+    → assemble_verdict shapes numbers flags to_shapes to ≡ accepted
+    → assemble_answer shapes numbers flags to_shapes to ≡ Accepted (length shapes) (total shapes + count (λ k. leb 2147483648 (get_or flags k 0)) (total shapes))
 unfolding assemble_answer outline_answer held_outline place_read
-assembled_anchors shapes numbers flags toShapes to v = rw v (ap (Accepted (length shapes)) (outline-length shapes (place_read numbers flags)))
+assembled_anchors shapes numbers flags to_shapes to v = rw v (ap (Accepted (length shapes)) (outline-length shapes (place_read numbers flags)))

@@ -55,7 +55,7 @@ unfoldable pub held_outline : List ℕ → List Float → List ℕ → List Anch
 held_outline shapes numbers flags = outline_of shapes (place_read numbers flags)
 
 unfoldable pub assemble_verdict : List ℕ → List Float → List ℕ → List ℕ → List Float → Verdict
-assemble_verdict shapes numbers flags toShapes to =
+assemble_verdict shapes numbers flags to_shapes to =
     let ps = held_outline shapes numbers flags in
     verdict
     (tests
@@ -64,16 +64,16 @@ assemble_verdict shapes numbers flags toShapes to =
     passes
     passes
     (outline_limit ps)
-    (holds (room_for (length shapes) (length ps) toShapes to) 0))
+    (holds (room_for (length shapes) (length ps) to_shapes to) 0))
 
 unfoldable pub assemble_answer : List ℕ → List Float → List ℕ → List ℕ → List Float → Outline
-assemble_answer shapes numbers flags toShapes to =
-    outline_answer (assemble_verdict shapes numbers flags toShapes to) (length shapes) (length (held_outline shapes numbers flags))
+assemble_answer shapes numbers flags to_shapes to =
+    outline_answer (assemble_verdict shapes numbers flags to_shapes to) (length shapes) (length (held_outline shapes numbers flags))
 
 unfoldable pub assemble_shapes : List ℕ → List Float → List ℕ → List ℕ → List Float → List ℕ
-assemble_shapes shapes numbers flags toShapes to =
-    list_left (assemble_verdict shapes numbers flags toShapes to) (length shapes) (outline_shapes shapes (place_read numbers flags)) toShapes
+assemble_shapes shapes numbers flags to_shapes to =
+    list_left (assemble_verdict shapes numbers flags to_shapes to) (length shapes) (outline_shapes shapes (place_read numbers flags)) to_shapes
 
 unfoldable pub assemble_anchors : List ℕ → List Float → List ℕ → List ℕ → List Float → List Float
-assemble_anchors shapes numbers flags toShapes to =
-    anchors_left (assemble_verdict shapes numbers flags toShapes to) (held_outline shapes numbers flags) to
+assemble_anchors shapes numbers flags to_shapes to =
+    anchors_left (assemble_verdict shapes numbers flags to_shapes to) (held_outline shapes numbers flags) to

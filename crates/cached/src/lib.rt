@@ -1,4 +1,6 @@
 // The cached edits of one anchor: an anchor moved, a radius set, on a lent drawing and its lent cut cache, in place; and the first tests of every cached edit.
+#![tactic(auto)]
+
 mod anchors;
 mod opening;
 mod planning;

@@ -28,7 +28,7 @@ pub fn open_cached(
 }
 
 // A refusal's number and place, or how many anchors the drawing has and the kind of its cuts.
-#[derive(Drop)]
+#[derive(Clone, Copy)]
 pub enum Ready {
     Refused(u32, usize),
     Known(usize, CornerKind),

@@ -9,7 +9,7 @@ use path::{Anchor, AnchorRef};
 use recutting::{Plan, plan_put, refuse};
 
 // Six new numbers, or a new radius.
-#[derive(Drop)]
+#[derive(Clone, Copy)]
 pub enum AnchorEdit {
     Move(Anchor),
     Radius(f64),

@@ -1,4 +1,6 @@
 // The cached edit that splits a segment, on a lent drawing and its lent cut cache, in place.
+#![tactic(auto)]
+
 mod making;
 mod planning;
 mod splits;

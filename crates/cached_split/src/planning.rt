@@ -52,7 +52,7 @@ fn plan_halves(
 }
 
 // What 7 and 5 leave: the kind, by its number and as it is, and how many anchors there are.
-#[derive(Drop)]
+#[derive(Clone, Copy)]
 struct Tested {
     kind: u32,
     way: CornerKind,

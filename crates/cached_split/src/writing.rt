@@ -14,7 +14,7 @@ use crate::making::{put_anchors, put_radius};
 // Whether the lists hold n places.
 pub fn has_room(anchors: &[f64], radii: &[f64], numbers: &[f64], flags: &[u32], n: usize) -> bool
     requires { n ≤ 1024 }
-    ensures { result ≡ long_for (record { anchors = length anchors.entry.now; radii = length radii.now; numbers = length numbers.now; flags = length flags.now }) n }
+    ensures { result ≡ long_for (record { anchors = length anchors.now; radii = length radii.now; numbers = length numbers.now; flags = length flags.now }) n }
 {
     if anchors.len() < n * 6 {
         return false;

@@ -37,10 +37,10 @@ module _ (sub : Sub) (w : Window) where
   abbrev p : ℕ → Bool
   p = reached_in sub w
 
-  abbrev nearTo : ℕ → Bool
-  nearTo = near w.reach sub.n sub.closed w.at
+  abbrev near_to : ℕ → Bool
+  near_to = near w.reach sub.n sub.closed w.at
 
-  pub reached_at : (j : ℕ) → j < sub.n → reached_in sub w (sub.first + j) ≡ nearTo j
+  pub reached_at : (j : ℕ) → j < sub.n → reached_in sub w (sub.first + j) ≡ near_to j
   unfolding reached_in
   reached_at j l =
       let e : sub.first + j - sub.first ≡ j = omega arith in
@@ -54,10 +54,10 @@ module _ (sub : Sub) (w : Window) where
   unfolding listed
   listed-none = let e : sub.first + 0 ≡ sub.first = omega arith in rw (e, passing-none p sub.first reached-before)
 
-  pub listed_skip : (j : ℕ) → j < sub.n → nearTo j ≡ false → listed (passing p (sub.first + (j + 1))) ≡ listed (passing p (sub.first + j))
+  pub listed_skip : (j : ℕ) → j < sub.n → near_to j ≡ false → listed (passing p (sub.first + (j + 1))) ≡ listed (passing p (sub.first + j))
   listed_skip j l e = let x : sub.first + (j + 1) ≡ suc (sub.first + j) = omega arith in rw x (ap listed (passing-same p (sub.first + j) (reached_at j l ∙ e)))
 
-  pub listed-put : (j : ℕ) → j < sub.n → nearTo j ≡ true → listed (passing p (sub.first + (j + 1))) ≡ listed (passing p (sub.first + j)) ++ (32 ∷ whole_text (sub.first + j))
+  pub listed-put : (j : ℕ) → j < sub.n → near_to j ≡ true → listed (passing p (sub.first + (j + 1))) ≡ listed (passing p (sub.first + j)) ++ (32 ∷ whole_text (sub.first + j))
   unfolding listed
   listed-put j l e =
       let k = sub.first + j in

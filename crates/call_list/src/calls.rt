@@ -6,7 +6,7 @@ ghost use Rattle.call_list.specs.Input.{list_fits, code_at, value_at, calls_answ
 use crate::number::number_of;
 
 // A refusal's number and place, or how many calls were read.
-#[derive(Drop)]
+#[derive(Clone, Copy)]
 pub enum Calls {
     Refused(u32, usize),
     Read(usize),

@@ -1,4 +1,6 @@
 // The places within reach of an edit, recut in a stretch of its subpath: a plan, made from lists that are only read, and then written.
+#![tactic(auto)]
+
 mod plans;
 mod stretches;
 mod testing;

@@ -7,7 +7,7 @@ ghost use Rattle.recutting.specs.Stretch.{About, From};
 use cut::{Sub, Window};
 
 // The subpath's index at which it starts, how many anchors it has, whether it is a whole closed subpath, and its index about which the window is.
-#[derive(Drop)]
+#[derive(Clone, Copy)]
 pub struct Stretch {
     pub from: usize,
     pub n: usize,

@@ -1,7 +1,7 @@
 -- The definitions run on a small drawing, by computation: calls decoded, their answers in words, and each refusal with its place. Assumes nothing.
 use mathlib.Core.Path.{◌≡◌, refl}
 use mathlib.Core.List.{List, [], ◌∷◌, ◌++◌}
-use Prim.Native.Nat.{ℕ, ◌+◌}
+use Prim.Native.Nat.{ℕ}
 use lib.ListN.{replicate}
 use lib.Ieee.{Float, nan, lt, le, eq, add, sub, mul, of_int, of_bits, binary64}
 use Rattle.views.specs.View.{overwrite, tabulate}

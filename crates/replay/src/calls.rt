@@ -11,7 +11,7 @@ use crate::testing::{calls_fit, calls_known};
 use call::{Opened, Outline};
 
 // A refusal's number and place, or how many calls were run.
-#[derive(Drop)]
+#[derive(Clone, Copy)]
 pub enum Replayed {
     Refused(u32, usize),
     Done(usize),

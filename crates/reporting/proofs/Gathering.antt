@@ -20,7 +20,7 @@ use Rattle.assembly.specs.Assembled.{place_read}
 use Rattle.assembly.proofs.Outlined.{outline-total}
 use Rattle.cut_calls.proofs.Handed.{outline_few}
 use Rattle.svg.specs.Path.{text_of}
-use Rattle.svg_calls.specs.Call.{to_svg_dverdict}
+use Rattle.svg_calls.specs.Call.{to_svg_d_verdict}
 use Rattle.svg.proofs.Texts.{text_same}
 use Rattle.cache.specs.Calls.{held_outline, assemble_verdict, assemble_answer, assemble_shapes, assemble_anchors}
 use Rattle.session.specs.Drawing.{Drawing, Lent}
@@ -30,14 +30,14 @@ use Rattle.session.proofs.Step.{Fine}
 use Rattle.session.proofs.Demand.{agreed}
 use Rattle.reporting.specs.Gathered.{held_text, GathersIn, Gathers}
 
-pub gathered_answer : (shapes : List ℕ) (numbers : List Float) (flags toShapes : List ℕ) (to : List Float) → GathersIn shapes numbers flags toShapes to
-    → assemble_answer shapes numbers flags toShapes to ≡ outline.Accepted (length shapes) (length (held_outline shapes numbers flags))
+pub gathered_answer : (shapes : List ℕ) (numbers : List Float) (flags to_shapes : List ℕ) (to : List Float) → GathersIn shapes numbers flags to_shapes to
+    → assemble_answer shapes numbers flags to_shapes to ≡ outline.Accepted (length shapes) (length (held_outline shapes numbers flags))
 unfolding assemble_answer outline_answer
-gathered_answer shapes numbers flags toShapes to g = rw g.accepts
+gathered_answer shapes numbers flags to_shapes to g = rw g.accepts
 
 -- a path that `to_svg_d` takes
-taken_opens : (words : List ℕ) (anchors : List Float) (out : List ℕ) → to_svg_dverdict words anchors out ≡ accepted → PathOpens 1024 words anchors (total words)
-unfolding to_svg_dverdict opened_path opened judge
+taken_opens : (words : List ℕ) (anchors : List Float) (out : List ℕ) → to_svg_d_verdict words anchors out ≡ accepted → PathOpens 1024 words anchors (total words)
+unfolding to_svg_d_verdict opened_path opened judge
 taken_opens words anchors out ok =
     let a = accepted_says _ _ _ _ _ _ ok in
     path_opens 1024 words anchors (total words) (rw (a.lists, a.arguments))
@@ -72,20 +72,20 @@ module _ (b : Lent) (m : Drawing) (held : Holds b m) (fine : Fine m) where
   plain_few =
       omega (arith, outline_few b.shapes (place_read b.numbers b.flags), few, ap (λ (x : Outline). length x.anchors) agrees.outline)
 
-  module _ (toShapes : List ℕ) (to : List Float) (wide : 32 ≤ length toShapes) (long : 6144 ≤ length to) where
-    gathered : (assemble_verdict b.shapes b.numbers b.flags toShapes to ≡ accepted)
-        × Outlined m (take (length m.shapes) (assemble_shapes b.shapes b.numbers b.flags toShapes to)) (assemble_anchors b.shapes b.numbers b.flags toShapes to) (plain_text m)
+  module _ (to_shapes : List ℕ) (to : List Float) (wide : 32 ≤ length to_shapes) (long : 6144 ≤ length to) where
+    gathered : (assemble_verdict b.shapes b.numbers b.flags to_shapes to ≡ accepted)
+        × Outlined m (take (length m.shapes) (assemble_shapes b.shapes b.numbers b.flags to_shapes to)) (assemble_anchors b.shapes b.numbers b.flags to_shapes to) (plain_text m)
     gathered =
-        agrees.assembles toShapes to (plain_text m)
-        (room (length o.words) (length o.anchors) toShapes to (omega (arith, plain_words, fine.words)) (omega (arith, plain_few)))
+        agrees.assembles to_shapes to (plain_text m)
+        (room (length o.words) (length o.anchors) to_shapes to (omega (arith, plain_words, fine.words)) (omega (arith, plain_few)))
         (le_refl (length (plain_text m)))
 
-    gathers_in : GathersIn b.shapes b.numbers b.flags toShapes to
+    gathers_in : GathersIn b.shapes b.numbers b.flags to_shapes to
     unfolding plain_text
     gathers_in =
         let g = gathered.1 in
         let e : length b.shapes ≡ length m.shapes = ap length held.shapes in
-        let xs = assemble_anchors b.shapes b.numbers b.flags toShapes to in
+        let xs = assemble_anchors b.shapes b.numbers b.flags to_shapes to in
         record {
           accepts = gathered.0;
           opens = rw e (taken_opens _ _ (plain_text m) g.accepts);

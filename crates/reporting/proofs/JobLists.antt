@@ -23,7 +23,7 @@ use Rattle.cache.proofs.Fitting.{fits-is}
 use Rattle.job.specs.Grammar.{Job, Within}
 use Rattle.job.specs.Content.{shape_words, job_numbers, job_radii}
 use Rattle.job.specs.Reading.{Reading, refused, accepted}
-use Rattle.job_calls.specs.Call.{file_read, outcome, anchors_left, radii_left, readAnswer, readShapes, readAnchors, readRadii}
+use Rattle.job_calls.specs.Call.{file_read, outcome, anchors_left, radii_left, answer_read, shapes_read, anchors_read, radii_read}
 use Rattle.job_calls.specs.declared.call.Job.TheVariants as answer
 use Rattle.job.proofs.Numbers.{job-numbers_in, job_radii_in}
 use Rattle.session.specs.Drawing.{drawn}
@@ -118,16 +118,16 @@ module _ (known : Bool) (cs : List Call) (bytes : List ℕ) (short : length byte
 
 -- ---- what is read of it
 module _ (bytes shapes : List ℕ) (anchors radii : List Float) (wide : length shapes ≡ 32) (long : length anchors ≡ 3072) (each : length radii ≡ 512) where
-  numbers-left : length (readAnchors bytes shapes anchors radii) ≡ 3072
-  unfolding readAnchors anchors_left
+  numbers-left : length (anchors_read bytes shapes anchors radii) ≡ 3072
+  unfolding anchors_read anchors_left
   numbers-left = go (outcome bytes shapes anchors radii)
     where
       go : (r : Reading) → length (anchors_left r anchors) ≡ 3072
       go (refused n place) = long
       go (accepted j) = length-overwrite _ _ anchors ∙ long
 
-  radii_left_lem : length (readRadii bytes shapes anchors radii) ≡ 512
-  unfolding readRadii radii_left
+  radii_left_lem : length (radii_read bytes shapes anchors radii) ≡ 512
+  unfolding radii_read radii_left
   radii_left_lem = go (outcome bytes shapes anchors radii)
     where
       go : (r : Reading) → length (radii_left r radii) ≡ 512
@@ -135,7 +135,7 @@ module _ (bytes shapes : List ℕ) (anchors radii : List Float) (wide : length s
       go (accepted j) = length-overwrite _ _ radii ∙ each
 
   module _ (known : Bool) (cs : List Call) (short : length bytes ≤ 32768) where
-    pub read_refuses : (n place : ℕ) → readAnswer bytes shapes anchors radii ≡ answer.Refused n place → refusing n place ≡ job_report known cs bytes
+    pub read_refuses : (n place : ℕ) → answer_read bytes shapes anchors radii ≡ answer.Refused n place → refusing n place ≡ job_report known cs bytes
     unfolding read_report
     read_refuses n place a = go (file_read bytes) refl
       where
@@ -150,8 +150,8 @@ module _ (bytes shapes : List ℕ) (anchors radii : List Float) (wide : length s
         go (accepted j) e = absurd (differ (sym a ∙ accepts bytes shapes anchors radii wide long each j (file_sound bytes j e) e))
 
     -- in lists xs, ns and rs that hold what is read
-    module _ (kind m n : ℕ) (g : Given bytes shapes anchors radii kind m n) (xs : List ℕ) (ns rs : List Float) (x : xs ≡ readShapes bytes shapes anchors radii)
-        (y : ns ≡ readAnchors bytes shapes anchors radii) (z : rs ≡ readRadii bytes shapes anchors radii) where
+    module _ (kind m n : ℕ) (g : Given bytes shapes anchors radii kind m n) (xs : List ℕ) (ns rs : List Float) (x : xs ≡ shapes_read bytes shapes anchors radii)
+        (y : ns ≡ anchors_read bytes shapes anchors radii) (z : rs ≡ radii_read bytes shapes anchors radii) where
       pub read-drawn : Drawn (take m xs) ns rs kind
       read-drawn = rw (x, y, z, g.words, g.kind-is) (lists_drawn g.job g.within n g.few _ _ numbers-left radii_left_lem g.numbers g.radii_are)
 

@@ -42,7 +42,7 @@ use Rattle.call_lines.specs.Lines.{window_of, sub_from, call_line, line_at, call
 use Rattle.printing.specs.Printed.{fitted}
 use Rattle.reporting.specs.Gathered.{held_text, Gathers}
 use Rattle.reporting.specs.Report.{report_of, refusing, roomy, drawing_report}
-use Rattle.reporting.proofs.Turns.{turnLine, refused_some, line_refused, accepted_so, line-sound, line_accepted}
+use Rattle.reporting.proofs.Turns.{turn_line, refused_some, line_refused, accepted_so, line-sound, line_accepted}
 use Rattle.reporting.proofs.Sessions.{turn_lines}
 use Rattle.reporting.proofs.Drawings.{way_places, lists_gather, report_ran, report_bad, report_unknown}
 
@@ -71,12 +71,12 @@ all_says p n k h l = go (p k) refl
     go false e = absurd (true≢false (sym h ∙ all_false p n k l e))
 
 -- ---- one line more
-turn_more : (kind : ℕ) (cs : List Call) (c : Call) (l : Lent) → turn_lines kind l (cs ++ c ∷ []) ≡ turn_lines kind l cs ++ turnLine (played kind l cs) kind c
+turn_more : (kind : ℕ) (cs : List Call) (c : Call) (l : Lent) → turn_lines kind l (cs ++ c ∷ []) ≡ turn_lines kind l cs ++ turn_line (played kind l cs) kind c
 unfolding turn_lines played
-turn_more kind [] c l = append-nil (turnLine l kind c)
+turn_more kind [] c l = append-nil (turn_line l kind c)
 turn_more kind (x ∷ cs) c l =
-    ap (λ t. turnLine l kind x ++ t) (turn_more kind cs c (call_lists l kind x))
-    ∙ sym (append_assoc (turnLine l kind x) (turn_lines kind (call_lists l kind x) cs) (turnLine (played kind (call_lists l kind x) cs) kind c))
+    ap (λ t. turn_line l kind x ++ t) (turn_more kind cs c (call_lists l kind x))
+    ∙ sym (append_assoc (turn_line l kind x) (turn_lines kind (call_lists l kind x) cs) (turn_line (played kind (call_lists l kind x) cs) kind c))
 
 module _ (kind : ℕ) (b : Lent) (codes : List ℕ) (values : List Float) (xs : List ℕ) (known : calls_known codes ≡ true) (room : call_count codes * 5 ≤ length xs) where
   abbrev f : ℕ → Call
@@ -121,12 +121,12 @@ module _ (kind : ℕ) (b : Lent) (codes : List ℕ) (values : List Float) (xs : 
   unfolding line_at
   words-line j l = rw (which_at j l, index_at j, first_word j l, word j 1 l (omega arith), word j 3 l (omega arith), word j 4 l (omega arith))
 
-  line-is : (j : ℕ) → j < m → line_at codes ys j ≡ turnLine (on j) kind (f j)
+  line-is : (j : ℕ) → j < m → line_at codes ys j ≡ turn_line (on j) kind (f j)
   line-is j l = words-line j l ∙ go (call_answer (on j) kind (f j)) refl
     where
       go : (a : Edited) → call_answer (on j) kind (f j) ≡ a
           → call_line (which_of (f j)) (index_of (f j)) (get_or (call_words kind (on j) (f j)) 0 0) (get_or (call_words kind (on j) (f j)) 1 0) (get_or (call_words kind (on j) (f j)) 3 0) (get_or (call_words kind (on j) (f j)) 4 0)
-          ≡ turnLine (on j) kind (f j)
+          ≡ turn_line (on j) kind (f j)
       go (Refused x place) e = rw (refused-words j x place e) (line_refused (on j) kind (f j) x place 0 0 e)
       go (Accepted recut n) e =
           let s = accepted_so (on j) kind (f j) recut n e in
@@ -137,7 +137,7 @@ module _ (kind : ℕ) (b : Lent) (codes : List ℕ) (values : List Float) (xs : 
   unfolding call_lines turn_lines tabulate
   lines_to zero h = refl
   lines_to (suc k) h =
-      ap₂ ◌++◌ (lines_to k (omega arith)) (line-is k h ∙ ap (λ l. turnLine l kind (f k)) (stage-played kind k b f))
+      ap₂ ◌++◌ (lines_to k (omega arith)) (line-is k h ∙ ap (λ l. turn_line l kind (f k)) (stage-played kind k b f))
       ∙ sym (turn_more kind (tabulate k f) (f k) b) ∙ ap (turn_lines kind b) (sym (tabulate_more k f))
 
   pub lines_are : call_lines codes (overwrite (call_count codes * 5) (answer_word kind b (call_at codes values)) xs) (call_count codes) ≡ turn_lines kind b (tabulate (call_count codes) (call_at codes values))

@@ -23,12 +23,12 @@ use Rattle.reporting.specs.Codes.{window_in}
 use Rattle.call_lines.specs.Lines.{sub_from, recut_text}
 use Rattle.reporting.specs.Report.{edited_text, edited_line, model_lines, fed_all}
 use Rattle.reporting.proofs.Theorems.{recuts_reached}
-use Rattle.reporting.proofs.Turns.{passing_cong, turnLine}
+use Rattle.reporting.proofs.Turns.{passing_cong, turn_line}
 
 -- the lines of calls on one set of lists
 unfoldable pub turn_lines : ℕ → Lent → List Call → List ℕ
 turn_lines kind l [] = []
-turn_lines kind l (c ∷ cs) = turnLine l kind c ++ turn_lines kind (call_lists l kind c) cs
+turn_lines kind l (c ∷ cs) = turn_line l kind c ++ turn_lines kind (call_lists l kind c) cs
 
 -- ---- a call changes no list's length
 left-lengths : (v : Verdict) (l : Lent) (e : Edit) → lengths_of (lists_after v (edited_lists l e) l) ≡ lengths_of l
@@ -83,7 +83,7 @@ unfolding drawn
 drawn_shapes b kind m h = h.shapes
 
 line_same : (b : Lent) (kind : ℕ) (m : Drawing) (c : Call) → Holds b m → call_answer b kind c ≡ model_answer m (lengths_of b) c
-    → turnLine b kind c ≡ edited_line (model_answer m (lengths_of b) c) (edit_of m c)
+    → turn_line b kind c ≡ edited_line (model_answer m (lengths_of b) c) (edit_of m c)
 unfolding edited_line
 line_same b kind m c held a = rw a (ap (λ t. t ++ 10 ∷ []) (text_same (model_answer m (lengths_of b) c) (drawn b kind) m c (drawn_shapes b kind m held)))
 

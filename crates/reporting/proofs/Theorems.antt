@@ -1,7 +1,7 @@
 -- WHICH CORNERS DIFFER: the places of a call's line are exactly those that its edit recuts, and at every other place the cut is what it was. Assumes nothing.
 use mathlib.Core.Path.{◌≡◌, refl, sym, ap, ◌∙◌}
 use mathlib.Core.Logic.{◌⊎◌, ⊎_elim}
-use mathlib.Core.Bool.{Bool, true, false, ◌&&◌, ◌||◌, or_true, or-false}
+use mathlib.Core.Bool.{Bool, true, false, ◌&&◌, ◌||◌, or-true, or-false}
 use mathlib.Core.List.{List, [], ◌∷◌, ◌++◌}
 use Prim.Native.Nat.{ℕ, zero, suc, ◌+◌, ◌≤◌, ◌<◌}
 use native.Mathlib.Omega.{arith}
@@ -60,7 +60,7 @@ member-passing p (suc n) k = go (p n) refl (member-passing p n k)
     go true e h =
         ap (member k) (passing_more p n e) ∙ member-append k (passing p n) (n ∷ [])
         ∙ ⊎_elim
-        (λ s. rw (eq-eqb k n s) (or_true (member k (passing p n)) ∙ sym (now s e)))
+        (λ s. rw (eq-eqb k n s) (or-true (member k (passing p n)) ∙ sym (now s e)))
         (λ ne. rw (ne_eqb k n ne) (or-false (member k (passing p n)) ∙ h ∙ other ne))
         (same k n)
     go false e h = ap (member k) (passing-same p n e) ∙ h ∙ ⊎_elim (λ s. gone s e) (λ ne. other ne) (same k n)

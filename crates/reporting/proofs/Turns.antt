@@ -104,8 +104,8 @@ module _ (l : Lent) (kind : ℕ) (c : Call) where
   n = total e.made.shapes
 
   -- the line of the call
-  abbrev pub turnLine : List ℕ
-  turnLine = edited_line (call_answer l kind c) (edit_of (drawn l kind) c)
+  abbrev pub turn_line : List ℕ
+  turn_line = edited_line (call_answer l kind c) (edit_of (drawn l kind) c)
 
   -- ---- refused
   pub refused_some : (x place : ℕ) → call_answer l kind c ≡ Refused x place → 0 < x
@@ -122,7 +122,7 @@ module _ (l : Lent) (kind : ℕ) (c : Call) where
       go accepted q h = absurd (apart h)
       go (refused y k) q h = rw (← same_number h) (first_number _ _ y k q)
 
-  pub line_refused : (x place first word : ℕ) → call_answer l kind c ≡ Refused x place → call_line (which_of c) (index_of c) x place first word ≡ turnLine
+  pub line_refused : (x place first word : ℕ) → call_answer l kind c ≡ Refused x place → call_line (which_of c) (index_of c) x place first word ≡ turn_line
   unfolding call_line call_text edited_line edited_text
   line_refused x place first word h = rw (h, ne_eqb x 0 (λ q. omega (arith, refused_some x place h)))
 
@@ -184,6 +184,6 @@ module _ (l : Lent) (kind : ℕ) (c : Call) where
     recut_here = passing_cong _ _ n (λ k h. recuts_reached (drawn l kind) c k) ∙ recut-all (sub_left (drawn l kind) c) (window_in c) n there.inside
 
     pub line_accepted : (recut : ℕ) → call_answer l kind c ≡ Accepted recut (total (edit_of (drawn l kind) c).made.shapes)
-        → call_line (which_of c) (index_of c) 0 recut (start (call_lists l kind c).shapes (subpath_of c)) (word_at (call_lists l kind c).shapes (subpath_of c)) ≡ turnLine
+        → call_line (which_of c) (index_of c) 0 recut (start (call_lists l kind c).shapes (subpath_of c)) (word_at (call_lists l kind c).shapes (subpath_of c)) ≡ turn_line
     unfolding call_line call_text edited_line edited_text
     line_accepted recut h = rw (h, sub-left, recut_here)

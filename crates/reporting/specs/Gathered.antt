@@ -12,14 +12,14 @@ unfoldable pub held_text : List ℕ → List Float → List ℕ → List ℕ
 held_text shapes numbers flags = text_of (outline_words shapes (place_read numbers flags)) (nth (held_outline shapes numbers flags))
 
 -- `assemble` leaves in two lists a path that `to_svg_d` takes, of this text
-pub record GathersIn (shapes : List ℕ) (numbers : List Float) (flags toShapes : List ℕ) (to : List Float) : Type 0 where
-  pub accepts : assemble_verdict shapes numbers flags toShapes to ≡ accepted
-  pub opens : PathOpens 1024 (take (length shapes) (assemble_shapes shapes numbers flags toShapes to)) (assemble_anchors shapes numbers flags toShapes to)
-      (total (take (length shapes) (assemble_shapes shapes numbers flags toShapes to)))
-  pub text : text_of (take (length shapes) (assemble_shapes shapes numbers flags toShapes to)) (anchor_at (assemble_anchors shapes numbers flags toShapes to))
+pub record GathersIn (shapes : List ℕ) (numbers : List Float) (flags to_shapes : List ℕ) (to : List Float) : Type 0 where
+  pub accepts : assemble_verdict shapes numbers flags to_shapes to ≡ accepted
+  pub opens : PathOpens 1024 (take (length shapes) (assemble_shapes shapes numbers flags to_shapes to)) (assemble_anchors shapes numbers flags to_shapes to)
+      (total (take (length shapes) (assemble_shapes shapes numbers flags to_shapes to)))
+  pub text : text_of (take (length shapes) (assemble_shapes shapes numbers flags to_shapes to)) (anchor_at (assemble_anchors shapes numbers flags to_shapes to))
       ≡ held_text shapes numbers flags
 
 -- in any two that are long enough
 pub record Gathers (shapes : List ℕ) (numbers : List Float) (flags : List ℕ) : Type 0 where
   pub words : length shapes ≤ 32
-  pub gathers : (toShapes : List ℕ) (to : List Float) → 32 ≤ length toShapes → 6144 ≤ length to → GathersIn shapes numbers flags toShapes to
+  pub gathers : (to_shapes : List ℕ) (to : List Float) → 32 ≤ length to_shapes → 6144 ≤ length to → GathersIn shapes numbers flags to_shapes to

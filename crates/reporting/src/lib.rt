@@ -1,4 +1,6 @@
 // What the program `edits` prints for a list of calls and a job: a line for each call, and the last text.
+#![tactic(auto)]
+
 mod outlines;
 mod reports;
 

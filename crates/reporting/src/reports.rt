@@ -14,7 +14,7 @@ use printing::put_refused;
 use replay::Replayed;
 
 // How many bytes the calls' lines take, and the last line less its newline.
-#[derive(Drop)]
+#[derive(Clone, Copy)]
 pub struct Reported {
     pub lines: usize,
     pub text: usize,

@@ -30,8 +30,8 @@ module _ (l : Lent) (kind s i : ℕ) (there : s < length l.shapes) (inside : i <
 
   -- ---- move
   module _ (new : Anchor) where
-    abbrev moveEdit : Edit
-    moveEdit = edit_of (drawn l kind) (move s i new)
+    abbrev move_edit : Edit
+    move_edit = edit_of (drawn l kind) (move s i new)
 
     pub move_shapes_left : l.shapes ≡ (edited_lists l (edit_of (drawn l kind) (move s i new))).shapes
     unfolding edited_lists edit_of moved drawn
@@ -48,16 +48,16 @@ module _ (l : Lent) (kind s i : ℕ) (there : s < length l.shapes) (inside : i <
     module _ (w : View) (like : Like (view_in (moved (drawn l kind) (first + i) new) s) w) where
       pub move_numbers-left : n * 12 ≤ length l.numbers → recut_numbers w first 3 i l.numbers ≡ (edited_lists l (edit_of (drawn l kind) (move s i new))).numbers
       unfolding edited_lists edit_of moved drawn
-      move_numbers-left long = recut-numbers moveEdit s first 3 i there refl (λ k. refl) w like l.numbers l.numbers long refl (λ j h. ap (entry l.numbers) (omega arith)) (λ j h. refl)
+      move_numbers-left long = recut-numbers move_edit s first 3 i there refl (λ k. refl) w like l.numbers l.numbers long refl (λ j h. ap (entry l.numbers) (omega arith)) (λ j h. refl)
 
       pub move_flags_left : n ≤ length l.flags → recut_flags w first 3 i l.flags ≡ (edited_lists l (edit_of (drawn l kind) (move s i new))).flags
       unfolding edited_lists edit_of moved drawn
-      move_flags_left long = recut_flags_lem moveEdit s first 3 i there refl (λ k. refl) w like l.flags l.flags long refl (λ k h. refl) (λ k h. refl)
+      move_flags_left long = recut_flags_lem move_edit s first 3 i there refl (λ k. refl) w like l.flags l.flags long refl (λ k h. refl) (λ k h. refl)
 
   -- ---- set a radius
   module _ (r : Float) where
-    abbrev radiusEdit : Edit
-    radiusEdit = edit_of (drawn l kind) (set_radius s i r)
+    abbrev radius_edit : Edit
+    radius_edit = edit_of (drawn l kind) (set_radius s i r)
 
     pub radius_shapes_left : l.shapes ≡ (edited_lists l (edit_of (drawn l kind) (set_radius s i r))).shapes
     unfolding edited_lists edit_of resized drawn
@@ -74,11 +74,11 @@ module _ (l : Lent) (kind s i : ℕ) (there : s < length l.shapes) (inside : i <
     module _ (w : View) (like : Like (view_in (resized (drawn l kind) (first + i) r) s) w) where
       pub radius-numbers-left : n * 12 ≤ length l.numbers → recut_numbers w first 2 i l.numbers ≡ (edited_lists l (edit_of (drawn l kind) (set_radius s i r))).numbers
       unfolding edited_lists edit_of resized drawn
-      radius-numbers-left long = recut-numbers radiusEdit s first 2 i there refl (λ k. refl) w like l.numbers l.numbers long refl (λ j h. ap (entry l.numbers) (omega arith)) (λ j h. refl)
+      radius-numbers-left long = recut-numbers radius_edit s first 2 i there refl (λ k. refl) w like l.numbers l.numbers long refl (λ j h. ap (entry l.numbers) (omega arith)) (λ j h. refl)
 
       pub radius_flags_left : n ≤ length l.flags → recut_flags w first 2 i l.flags ≡ (edited_lists l (edit_of (drawn l kind) (set_radius s i r))).flags
       unfolding edited_lists edit_of resized drawn
-      radius_flags_left long = recut_flags_lem radiusEdit s first 2 i there refl (λ k. refl) w like l.flags l.flags long refl (λ k h. refl) (λ k h. refl)
+      radius_flags_left long = recut_flags_lem radius_edit s first 2 i there refl (λ k. refl) w like l.flags l.flags long refl (λ k h. refl) (λ k h. refl)
 
 -- ---- split: the cache's lists are shifted first, from the new place on
 module _ (l : Lent) (kind s a : ℕ) (t : Float) (there : s < length l.shapes)
@@ -89,8 +89,8 @@ module _ (l : Lent) (kind s a : ℕ) (t : Float) (there : s < length l.shapes)
   abbrev after : ℕ
   after = total (split_shapes l.shapes s)
 
-  abbrev splitEdit : Edit
-  splitEdit = edit_of (drawn l kind) (split s a t)
+  abbrev split_edit : Edit
+  split_edit = edit_of (drawn l kind) (split s a t)
 
   pub split_shapes_left_lem : set l.shapes s (word_at l.shapes s + 1) ≡ (edited_lists l (edit_of (drawn l kind) (split s a t))).shapes
   unfolding edited_lists edit_of split_at drawn split_shapes
@@ -109,13 +109,13 @@ module _ (l : Lent) (kind s a : ℕ) (t : Float) (there : s < length l.shapes)
         → ((j : ℕ) → j < after * 12 → entry shifted j ≡ entry l.numbers (old at (j / 12) * 12 + j % 12)) → ((j : ℕ) → after * 12 ≤ j → entry shifted j ≡ entry l.numbers j)
         → recut_numbers w (start l.shapes s) 4 (a + 1) shifted ≡ (edited_lists l (edit_of (drawn l kind) (split s a t))).numbers
     unfolding edited_lists edit_of segment_start split_at drawn
-    split-numbers-left shifted long size stood rest = recut-numbers splitEdit s (start l.shapes s) 4 (a + 1) made_there made-start (λ k. refl) w like l.numbers shifted long size stood rest
+    split-numbers-left shifted long size stood rest = recut-numbers split_edit s (start l.shapes s) 4 (a + 1) made_there made-start (λ k. refl) w like l.numbers shifted long size stood rest
 
     pub split_flags_left : (shifted : List ℕ) → after ≤ length l.flags → length shifted ≡ length l.flags
         → ((k : ℕ) → k < after → get_or shifted k 0 ≡ get_or l.flags (old at k) 0) → ((k : ℕ) → after ≤ k → get_or shifted k 0 ≡ get_or l.flags k 0)
         → recut_flags w (start l.shapes s) 4 (a + 1) shifted ≡ (edited_lists l (edit_of (drawn l kind) (split s a t))).flags
     unfolding edited_lists edit_of segment_start split_at drawn
-    split_flags_left shifted long size stood rest = recut_flags_lem splitEdit s (start l.shapes s) 4 (a + 1) made_there made-start (λ k. refl) w like l.flags shifted long size stood rest
+    split_flags_left shifted long size stood rest = recut_flags_lem split_edit s (start l.shapes s) 4 (a + 1) made_there made-start (λ k. refl) w like l.flags shifted long size stood rest
 
   -- anchors and radii by place
   pub split_anchors_left_lem : overwrite (after * 6) (anchor_numbers (split_anchors (anchor_at l.anchors) (segment_start l.shapes s a) (segment_end l.shapes s a) t)) l.anchors

@@ -16,7 +16,7 @@ use Rattle.refusal.specs.Order.{passes, holds, accepted}
 use Rattle.refusal.proofs.Verdicts.{holds_true, by_none}
 use Rattle.path.specs.declared.anchor.Anchor.{Anchor}
 use Rattle.path.specs.Shape.{total}
-use Rattle.path.specs.Flat.{anchor_at, numbers, nth, listed, anchor_numbers}
+use Rattle.path.specs.Flat.{anchor_at, nth, listed, anchor_numbers}
 use Rattle.path.specs.Limit.{anchor_good, anchor_in}
 use Rattle.path.proofs.Limits.{GoodBelow}
 use Rattle.path.proofs.Places.{anchor-number}
@@ -27,7 +27,7 @@ use Rattle.assembly.specs.Assembled.{place_read, outline_words}
 use Rattle.assembly.proofs.Outlined.{outline-total, words-written}
 use Rattle.cut_calls.proofs.Handed.{outline_few}
 use Rattle.svg.specs.Path.{text_of}
-use Rattle.svg_calls.specs.Call.{text_room, left, to_svg_dverdict, to_svg_dleft}
+use Rattle.svg_calls.specs.Call.{text_room, left, to_svg_d_verdict, to_svg_d_left}
 use Rattle.session.specs.Drawing.{Drawing, Lent, view_in}
 use Rattle.cache.specs.Tests.{cache_fits}
 use Rattle.cache.proofs.Limited.{cached_outline}
@@ -65,14 +65,14 @@ module _ (m : Drawing) (fine : Fine m) where
   unfolding plain_cut
   plain_few = let e = ap length (outline-cut m) in omega (arith, outline_few m.shapes (places_of m), fine.few)
 
-  module _ (b : Lent) (held : Holds b m) (toShapes : List ℕ) (to : List Float) (out : List ℕ) (enough : room_for (length o.words) (length o.anchors) toShapes to ≡ true) where
-    room-words : length o.words ≤ length toShapes
+  module _ (b : Lent) (held : Holds b m) (to_shapes : List ℕ) (to : List Float) (out : List ℕ) (enough : room_for (length o.words) (length o.anchors) to_shapes to ≡ true) where
+    room-words : length o.words ≤ length to_shapes
     unfolding room_for
-    room-words = leb-true _ _ (and_left (leb (length o.words) (length toShapes)) (leb (length o.anchors * 6) (length to)) enough)
+    room-words = leb-true _ _ (and_left (leb (length o.words) (length to_shapes)) (leb (length o.anchors * 6) (length to)) enough)
 
     room-numbers : length o.anchors * 6 ≤ length to
     unfolding room_for
-    room-numbers = leb-true _ _ (and_right (leb (length o.words) (length toShapes)) (leb (length o.anchors * 6) (length to)) enough)
+    room-numbers = leb-true _ _ (and_right (leb (length o.words) (length to_shapes)) (leb (length o.anchors * 6) (length to)) enough)
 
     fits : cache_fits b.shapes b.numbers b.flags ≡ true
     unfolding cache_fits
@@ -89,20 +89,20 @@ module _ (m : Drawing) (fine : Fine m) where
     held-length : length b.shapes ≡ length o.words
     held-length = ap length held.shapes ∙ sym plain_words
 
-    assemble-accepts : assemble_verdict b.shapes b.numbers b.flags toShapes to ≡ accepted
+    assemble-accepts : assemble_verdict b.shapes b.numbers b.flags to_shapes to ≡ accepted
     unfolding assemble_verdict outline_limit
     assemble-accepts =
         rw (held_anchors, held-length)
         (by_none _ _ _ _ _ _ (holds_true 0 fits) refl refl refl (places_pass (outline_in o.anchors) (length o.anchors) passes plain_good) (holds_true 0 enough))
 
-    words_left : take (length m.shapes) (assemble_shapes b.shapes b.numbers b.flags toShapes to) ≡ o.words
+    words_left : take (length m.shapes) (assemble_shapes b.shapes b.numbers b.flags to_shapes to) ≡ o.words
     unfolding assemble_shapes list_left
     words_left =
-        ap (λ shapes. take (length shapes) (assemble_shapes b.shapes b.numbers b.flags toShapes to)) (sym held.shapes)
+        ap (λ shapes. take (length shapes) (assemble_shapes b.shapes b.numbers b.flags to_shapes to)) (sym held.shapes)
         ∙ rw assemble-accepts
-        (words-written b.shapes (place_read b.numbers b.flags) toShapes (omega (arith, held-length, room-words)) ∙ held-words)
+        (words-written b.shapes (place_read b.numbers b.flags) to_shapes (omega (arith, held-length, room-words)) ∙ held-words)
 
-    anchors_left_lem : assemble_anchors b.shapes b.numbers b.flags toShapes to ≡ listed o.anchors to
+    anchors_left_lem : assemble_anchors b.shapes b.numbers b.flags to_shapes to ≡ listed o.anchors to
     unfolding assemble_anchors anchors_left
     anchors_left_lem = rw (assemble-accepts, held_anchors)
 
@@ -129,21 +129,21 @@ module _ (m : Drawing) (fine : Fine m) where
     unfolding plain_text
     text-left = text_same (anchor_at (listed o.anchors to)) (nth o.anchors) o.words (λ k l. listed_at o.anchors to room-numbers k (omega (arith, plain_total)))
 
-    text-verdict : length (plain_text m) ≤ length out → to_svg_dverdict o.words (listed o.anchors to) out ≡ accepted
-    unfolding to_svg_dverdict path_limit text_room
+    text-verdict : length (plain_text m) ≤ length out → to_svg_d_verdict o.words (listed o.anchors to) out ≡ accepted
+    unfolding to_svg_d_verdict path_limit text_room
     text-verdict h =
         by_none _ _ _ _ _ _ (holds_true 0 listed-fits)
         (places_pass (anchor_in (listed o.anchors to)) (total o.words) (holds true (total o.words)) listed_good ∙ holds_true (total o.words) refl)
         refl refl refl
         (holds_true 0 (rw text-left (le-leb (length (plain_text m)) (length out) h)))
 
-    text-written : length (plain_text m) ≤ length out → to_svg_dleft o.words (listed o.anchors to) out ≡ plain_text m ++ drop (length (plain_text m)) out
-    unfolding to_svg_dleft left
+    text-written : length (plain_text m) ≤ length out → to_svg_d_left o.words (listed o.anchors to) out ≡ plain_text m ++ drop (length (plain_text m)) out
+    unfolding to_svg_d_left left
     text-written h = rw (text-verdict h, text-left)
 
     pub assembles : length (plain_text m) ≤ length out
-        → (assemble_verdict b.shapes b.numbers b.flags toShapes to ≡ accepted)
-        × Outlined m (take (length m.shapes) (assemble_shapes b.shapes b.numbers b.flags toShapes to)) (assemble_anchors b.shapes b.numbers b.flags toShapes to) out
+        → (assemble_verdict b.shapes b.numbers b.flags to_shapes to ≡ accepted)
+        × Outlined m (take (length m.shapes) (assemble_shapes b.shapes b.numbers b.flags to_shapes to)) (assemble_anchors b.shapes b.numbers b.flags to_shapes to) out
     assembles h = (
       assemble-accepts,
       record {

@@ -15,7 +15,7 @@ use Rattle.refusal.specs.Order.{accepted}
 use Rattle.refusal.proofs.Verdicts.{holds_says, accepted_says}
 use Rattle.path.specs.Flat.{anchor_at}
 use Rattle.path.specs.Shape.{total}
-use Rattle.call.specs.Tests.{places, drawing_limit}
+use Rattle.call.specs.Tests.{drawing_limit}
 use Rattle.call.specs.Answers.{list_left}
 use Rattle.corner.specs.declared.cut.CornerKind.{CornerKind}
 use Rattle.cut.specs.Subpath.{view_of}
@@ -47,7 +47,7 @@ agreed b m held fine =
       held = held;
       outline = o;
       counted = ap (λ x. length x.anchors) o ∙ plain_count m;
-      assembles = λ toShapes to out enough h. assembles m fine b held toShapes to out enough h;
+      assembles = λ to_shapes to out enough h. assembles m fine b held to_shapes to out enough h;
     }
 
 -- ---- the induction, from ANY buffers that hold a drawing and its cut

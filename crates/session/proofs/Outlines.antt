@@ -12,7 +12,7 @@ use Rattle.views.specs.Search.{count}
 use Rattle.views.proofs.Laws.{tabulate_cong}
 use Rattle.views.proofs.Searches.{count_cong}
 use Rattle.path.specs.Shape.{count_of, closed_of, total, word_at, start, sub_of}
-use Rattle.path.specs.Flat.{anchor_at, numbers}
+use Rattle.path.specs.Flat.{anchor_at}
 use Rattle.cut.specs.Subpath.{view_of}
 use Rattle.cut.specs.Places.{is_cut, place_at}
 use Rattle.cut.specs.Rows.{flag_of}

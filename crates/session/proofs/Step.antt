@@ -16,7 +16,6 @@ use Rattle.refusal.proofs.Verdicts.{holds_says, accepted_says}
 use Rattle.path.specs.Shape.{total}
 use Rattle.path.specs.Flat.{anchor_at}
 use Rattle.path.proofs.Limits.{GoodBelow}
-use Rattle.call.specs.Tests.{places}
 use Rattle.session.specs.Drawing.{Drawing, Lent, drawn}
 use Rattle.cache.specs.Cache.{cached_in}
 use Rattle.edit.specs.Split.{split_shapes}

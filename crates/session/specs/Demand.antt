@@ -6,7 +6,7 @@ use Rattle.refusal.specs.Order.{accepted}
 use Rattle.path.specs.Shape.{total}
 use Rattle.path.specs.Flat.{anchor_at, nth}
 use Rattle.call.specs.Tests.{room_for}
-use Rattle.svg_calls.specs.Call.{to_svg_dverdict, to_svg_dleft}
+use Rattle.svg_calls.specs.Call.{to_svg_d_verdict, to_svg_d_left}
 use Rattle.cut.specs.Places.{place_numbers}
 use Rattle.cut.specs.Rows.{flag_of}
 use Rattle.session.specs.declared.answers.Edited.TheVariants.{Refused, Accepted}
@@ -34,8 +34,8 @@ pub record Holds (b : Lent) (m : Drawing) : Type 0 where
 pub record Outlined (m : Drawing) (shapes : List ℕ) (anchors : List Float) (out : List ℕ) : Type 0 where
   pub words : shapes ≡ (plain_cut m).words
   pub each : (k : ℕ) → k < length (plain_cut m).anchors → anchor_at anchors k ≡ nth (plain_cut m).anchors k
-  pub accepts : to_svg_dverdict shapes anchors out ≡ accepted
-  pub text : to_svg_dleft shapes anchors out ≡ plain_text m ++ drop (length (plain_text m)) out
+  pub accepts : to_svg_d_verdict shapes anchors out ≡ accepted
+  pub text : to_svg_d_left shapes anchors out ≡ plain_text m ++ drop (length (plain_text m)) out
 
 -- what holds of buffers b that agree with a drawing m and its plain cut
 pub record Agrees (b : Lent) (m : Drawing) : Type 0 where
@@ -46,10 +46,10 @@ pub record Agrees (b : Lent) (m : Drawing) : Type 0 where
   -- its anchors: those of m, and one for each place of m whose fitted radius exceeds 1e-9
   pub counted : length (assembled_from b).anchors ≡ total m.shapes + count (cut_in m) (total m.shapes)
   -- with room for it, assembling is accepted and leaves the plain cut; and the text of what it leaves is the plain cut's
-  pub assembles : (toShapes : List ℕ) (to : List Float) (out : List ℕ) → room_for (length (plain_cut m).words) (length (plain_cut m).anchors) toShapes to ≡ true
+  pub assembles : (to_shapes : List ℕ) (to : List Float) (out : List ℕ) → room_for (length (plain_cut m).words) (length (plain_cut m).anchors) to_shapes to ≡ true
       → length (plain_text m) ≤ length out
-      → (assemble_verdict b.shapes b.numbers b.flags toShapes to ≡ accepted)
-      × Outlined m (take (length m.shapes) (assemble_shapes b.shapes b.numbers b.flags toShapes to)) (assemble_anchors b.shapes b.numbers b.flags toShapes to) out
+      → (assemble_verdict b.shapes b.numbers b.flags to_shapes to ≡ accepted)
+      × Outlined m (take (length m.shapes) (assemble_shapes b.shapes b.numbers b.flags to_shapes to)) (assemble_anchors b.shapes b.numbers b.flags to_shapes to) out
 
 -- what an accepted edit leaves alone, on ANY cache: a place that is not recut has the bits that it had (shifted, after a split), and so has all past the places
 pub record Untouched (e : Edit) (before now : Lent) : Type 0 where

@@ -1,5 +1,5 @@
 -- A list of calls on the cache of a drawing: each gets the lists as the last one left them, and may be lent more or less of them. Assumes nothing.
-use Rattle.std.specs.Prelude.{ℕ, ◌+◌, ◌*◌, ◌<◌, ◌≡◌, List, [], ◌∷◌, ◌++◌, length, get_or, drop}
+use Rattle.std.specs.Prelude.{ℕ, ◌*◌, ◌<◌, ◌≡◌, List, [], ◌∷◌, ◌++◌, length, get_or, drop}
 use Rattle.views.specs.View.{entry}
 use Rattle.path.specs.Shape.{total}
 use Rattle.session.specs.declared.answers.Edited.{Edited}

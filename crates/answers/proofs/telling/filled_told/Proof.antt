@@ -5,16 +5,16 @@ use Rattle.answers.specs.Answers.{filled_code, filled_words}
 use Rattle.answers.proofs.telling.filled_told.Statement.{statement}
 use Rattle.answers.proofs.telling.filled_told.Tie as tie
 
-returns : tie.Need-returns
+returns : tie.Need-returns-in-Refused
 unfolding filled_code filled_words
-returns c = rw c.before.before.before.a.given.1 (refl, c.tell.ensures)
+returns c = rw c.in-Refused.is (refl, c.tell.ensures)
 
-returns-2 : tie.Need-returns-2
+returns-2 : tie.Need-returns-in-Accepted
 unfolding filled_code filled_words
-returns-2 c = rw c.before.before.before.a2.given.1 (refl, c.tell2.ensures)
+returns-2 c = rw c.in-Accepted.is (refl, c.tell-in-Accepted.ensures)
 
-pub filled-told-spec : {M : Type 1} → statement M
-filled-told-spec =
+pub filled_told_spec : {M : Type 1} → statement M
+filled_told_spec =
     tie.close
     (tie.spec
     (λ c. search rules)

@@ -5,16 +5,16 @@ use Rattle.answers.specs.Answers.{job_code, job_words}
 use Rattle.answers.proofs.telling.job_told.Statement.{statement}
 use Rattle.answers.proofs.telling.job_told.Tie as tie
 
-returns : tie.Need-returns
+returns : tie.Need-returns-in-Refused
 unfolding job_code job_words
-returns c = rw c.before.before.before.a.given.1 (refl, c.tell.ensures)
+returns c = rw c.in-Refused.is (refl, c.tell.ensures)
 
-returns-2 : tie.Need-returns-2
+returns-2 : tie.Need-returns-in-Read
 unfolding job_code job_words
-returns-2 c = rw c.before.before.a2.given.1 (refl, refl)
+returns-2 c = rw c.in-Read.is (refl, refl)
 
-pub job-told-spec : {M : Type 1} → statement M
-job-told-spec =
+pub job_told_spec : {M : Type 1} → statement M
+job_told_spec =
     tie.close
     (tie.spec
     (λ c. search rules)

@@ -5,16 +5,16 @@ use Rattle.answers.specs.Answers.{outline_code, outline_words}
 use Rattle.answers.proofs.telling.outline_told.Statement.{statement}
 use Rattle.answers.proofs.telling.outline_told.Tie as tie
 
-returns : tie.Need-returns
+returns : tie.Need-returns-in-Refused
 unfolding outline_code outline_words
-returns c = rw c.before.before.before.a.given.1 (refl, c.tell.ensures)
+returns c = rw c.in-Refused.is (refl, c.tell.ensures)
 
-returns-2 : tie.Need-returns-2
+returns-2 : tie.Need-returns-in-Accepted
 unfolding outline_code outline_words
-returns-2 c = rw c.before.before.a2.given.1 (refl, refl)
+returns-2 c = rw c.in-Accepted.is (refl, refl)
 
-pub outline-told-spec : {M : Type 1} → statement M
-outline-told-spec =
+pub outline_told_spec : {M : Type 1} → statement M
+outline_told_spec =
     tie.close
     (tie.spec
     (λ c. search rules)

@@ -5,16 +5,16 @@ use Rattle.answers.specs.Answers.{replayed_code, replayed_words}
 use Rattle.answers.proofs.telling.replayed_told.Statement.{statement}
 use Rattle.answers.proofs.telling.replayed_told.Tie as tie
 
-returns : tie.Need-returns
+returns : tie.Need-returns-in-Refused
 unfolding replayed_code replayed_words
-returns c = rw c.before.before.before.a.given.1 (refl, c.tell.ensures)
+returns c = rw c.in-Refused.is (refl, c.tell.ensures)
 
-returns-2 : tie.Need-returns-2
+returns-2 : tie.Need-returns-in-Done
 unfolding replayed_code replayed_words
-returns-2 c = rw c.before.before.before.a2.given.1 (refl, c.tell2.ensures)
+returns-2 c = rw c.in-Done.is (refl, c.tell-in-Done.ensures)
 
-pub replayed-told-spec : {M : Type 1} → statement M
-replayed-told-spec =
+pub replayed_told_spec : {M : Type 1} → statement M
+replayed_told_spec =
     tie.close
     (tie.spec
     (λ c. search rules)

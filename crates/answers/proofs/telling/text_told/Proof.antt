@@ -5,16 +5,16 @@ use Rattle.answers.specs.Answers.{text_code, text_words}
 use Rattle.answers.proofs.telling.text_told.Statement.{statement}
 use Rattle.answers.proofs.telling.text_told.Tie as tie
 
-returns : tie.Need-returns
+returns : tie.Need-returns-in-Refused
 unfolding text_code text_words
-returns c = rw c.before.before.before.a.given.1 (refl, c.tell.ensures)
+returns c = rw c.in-Refused.is (refl, c.tell.ensures)
 
-returns-2 : tie.Need-returns-2
+returns-2 : tie.Need-returns-in-Accepted
 unfolding text_code text_words
-returns-2 c = rw c.before.before.before.a2.given.1 (refl, c.tell2.ensures)
+returns-2 c = rw c.in-Accepted.is (refl, c.tell-in-Accepted.ensures)
 
-pub text-told-spec : {M : Type 1} → statement M
-text-told-spec =
+pub text_told_spec : {M : Type 1} → statement M
+text_told_spec =
     tie.close
     (tie.spec
     (λ c. search rules)

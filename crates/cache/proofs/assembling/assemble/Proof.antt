@@ -10,54 +10,54 @@ use Rattle.cache.proofs.Outcomes.{assemble_lists, assemble-answers, assemble_sha
 use Rattle.cache.proofs.assembling.assemble.Statement.{statement}
 use Rattle.cache.proofs.assembling.assemble.Tie as tie
 
-says : (c : tie.After-size) → let a = c.before.before.before.before.before.before.before.before.args in (cache_fits a.shapes.now a.numbers.now a.flags.now ≡ true) × (c.size.given.0.0 ≡ total a.shapes.now)
-says c = size_says _ _ _ _ (sym c.before.before.size-test.ensures ∙ c.size.given.1)
+says : (c : tie.In-Anchors) → let a = c.args in (cache_fits a.shapes.now a.numbers.now a.flags.now ≡ true) × (c.in-Anchors.places ≡ total a.shapes.now)
+says c = size_says _ _ _ _ (sym c.size_test-size.ensures ∙ c.in-Anchors.is)
 
-returns : tie.Need-returns
+returns : tie.Need-returns-in_default
 returns c =
-    let a = c.before.before.before.before.before.before.before.before.args in
-    let h = assemble_lists a.shapes.now a.numbers.now a.flags.now a.to-shapes.now a.to.now (size_refused _ _ _ (sym c.before.before.size-test.ensures ∙ c.enum_told.given.1)) in
+    let a = c.args in
+    let h = assemble_lists a.shapes.now a.numbers.now a.flags.now a.to_shapes.now a.to.now (size_refused _ _ _ (sym c.size_test-size.ensures ∙ c.in_default.is)) in
     (h.0, (h.1, h.2))
 
-hand-over-requires : tie.Need-hand-over-requires
+hand-over-requires : tie.Need-hand_over-requires
 hand-over-requires c κs =
-    let s = says c.before.before.before.before.before in
+    let s = says c.before.before.before.before in
     let n = s.1 in
     let f = fits_says _ _ _ s.0 in
     (f.words, f.few, f.long, f.flag_each, omega arith)
 
-returns-2 : tie.Need-returns-2
+returns-2 : tie.Need-returns-then-places-le32
 returns-2 c =
-    let h = c.before.before.before.before.before.hand-over.ensures in
-    let a = c.before.before.before.before.before.before.before.before.before.before.before.before.before.before.before.before.before.before.before.args in
-    let s = (says c.before.before.before.before.before.before.before.before.before.before.before).0 in (
-      h.0 ∙ assemble-answers a.shapes.now a.numbers.now a.flags.now a.to-shapes.now a.to.now s,
+    let h = c.hand_over.ensures in
+    let a = c.args in
+    let s = (says c.before.before.before.before.before.before.before.before.before.before).0 in (
+      h.0 ∙ assemble-answers a.shapes.now a.numbers.now a.flags.now a.to_shapes.now a.to.now s,
       (
-        h.1.0 ∙ assemble_shapes_lem a.shapes.now a.numbers.now a.flags.now a.to-shapes.now a.to.now s,
-        h.1.1 ∙ assemble_anchors_lem a.shapes.now a.numbers.now a.flags.now a.to-shapes.now a.to.now s,
+        h.1.0 ∙ assemble_shapes_lem a.shapes.now a.numbers.now a.flags.now a.to_shapes.now a.to.now s,
+        h.1.1 ∙ assemble_anchors_lem a.shapes.now a.numbers.now a.flags.now a.to_shapes.now a.to.now s,
       ),
     )
 
-hand-over-requires-2 : tie.Need-hand-over-requires-2
+hand-over-requires-2 : tie.Need-hand_over-requires-2
 hand-over-requires-2 c κs =
-    let s = says c.before.before.before.before.before in
+    let s = says c.before.before.before.before in
     let f = fits_says _ _ _ s.0 in
     (f.words, f.few, f.long, f.flag_each, omega (arith, f.few))
 
-returns-3 : tie.Need-returns-3
+returns-3 : tie.Need-returns
 returns-3 c =
-    let h = c.before.before.before.before.before.hand-over2.ensures in
-    let a = c.before.before.before.before.before.before.before.before.before.before.before.before.before.before.before.before.before.before.before.args in
-    let s = (says c.before.before.before.before.before.before.before.before.before.before.before).0 in (
-      h.0 ∙ assemble-answers a.shapes.now a.numbers.now a.flags.now a.to-shapes.now a.to.now s,
+    let h = c.hand_over-2.ensures in
+    let a = c.args in
+    let s = (says c.before.before.before.before.before.before.before.before.before.before).0 in (
+      h.0 ∙ assemble-answers a.shapes.now a.numbers.now a.flags.now a.to_shapes.now a.to.now s,
       (
-        h.1.0 ∙ assemble_shapes_lem a.shapes.now a.numbers.now a.flags.now a.to-shapes.now a.to.now s,
-        h.1.1 ∙ assemble_anchors_lem a.shapes.now a.numbers.now a.flags.now a.to-shapes.now a.to.now s,
+        h.1.0 ∙ assemble_shapes_lem a.shapes.now a.numbers.now a.flags.now a.to_shapes.now a.to.now s,
+        h.1.1 ∙ assemble_anchors_lem a.shapes.now a.numbers.now a.flags.now a.to_shapes.now a.to.now s,
       ),
     )
 
-pub assemble-spec : {M : Type 1} → statement M
-assemble-spec =
+pub assemble_spec : {M : Type 1} → statement M
+assemble_spec =
     tie.close
     (tie.spec
     (λ c κs. tt)

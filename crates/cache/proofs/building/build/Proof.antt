@@ -14,50 +14,50 @@ use Rattle.cache.proofs.building.build.Statement.{statement}
 use Rattle.cache.proofs.building.build.Tie as tie
 
 -- ---- what the tests tell
-says : (c : tie.After-size) → let a = c.before.before.before.before.before.before.before.before.before.before.args in (cache_fits a.shapes.now a.numbers.now a.flags.now ≡ true) × (c.size.given.0.0 ≡ total a.shapes.now)
-says c = size_says _ _ _ _ (sym c.before.before.size-test.ensures ∙ c.size.given.1)
+says : (c : tie.In-Anchors) → let a = c.args in (cache_fits a.shapes.now a.numbers.now a.flags.now ≡ true) × (c.in-Anchors.places ≡ total a.shapes.now)
+says c = size_says _ _ _ _ (sym c.size_test-size.ensures ∙ c.in-Anchors.is)
 
-opens : (c : tie.After-enum-told2) → let a = c.before.before.before.before.before.before.before.before.before.before.before.before.before.before.args in DrawingOpens a.shapes.now a.anchors.now a.radii.now c.enum-told2.given.0.0
-opens c = drawing_opens _ _ _ _ (sym c.before.before.open-drawing.ensures ∙ c.enum-told2.given.1)
+opens : (c : tie.In_default-opened) → let a = c.args in DrawingOpens a.shapes.now a.anchors.now a.radii.now c.in_default-opened.field-0
+opens c = drawing_opens _ _ _ _ (sym c.open_drawing-opened.ensures ∙ c.in_default-opened.is)
 
-known : (c : tie.After-known) → kind_of c.before.before.before.before.before.before.before.before.before.before.before.before.before.before.before.before.before.args.kind ≡ Known c.known.given.0.0
-known c = sym c.before.before.kind-of.ensures ∙ c.known.given.1
+known : (c : tie.In-Known) → kind_of c.args.kind ≡ Known c.in-Known.way
+known c = sym c.kind_of-known.ensures ∙ c.in-Known.is
 
 -- ---- the returns
-returns : tie.Need-returns
+returns : tie.Need-returns-in_default
 returns c =
-    let a = c.before.before.before.before.before.before.before.before.before.before.args in
-    let h = build_refuses a.shapes.now a.anchors.now a.radii.now a.kind a.numbers.now a.flags.now 7 0 (build_lists _ _ _ _ _ _ (size_refused _ _ _ (sym c.before.before.size-test.ensures ∙ c.enum_told.given.1))) in
+    let a = c.args in
+    let h = build_refuses a.shapes.now a.anchors.now a.radii.now a.kind a.numbers.now a.flags.now 7 0 (build_lists _ _ _ _ _ _ (size_refused _ _ _ (sym c.size_test-size.ensures ∙ c.in_default.is))) in
     (h.0, (h.1, h.2))
 
-returns-2 : tie.Need-returns-2
+returns-2 : tie.Need-returns-in-Refused
 returns-2 c =
-    let a = c.before.before.before.before.before.before.before.before.before.before.before.before.before.before.before.args in
-    let h = build_refuses a.shapes.now a.anchors.now a.radii.now a.kind a.numbers.now a.flags.now _ _ (build_opening _ _ _ _ _ _ (says c.before.before.before.before.before).0 _ _ (sym c.before.before.before.open-drawing.ensures ∙ c.before.opened.given.1)) in
+    let a = c.args in
+    let h = build_refuses a.shapes.now a.anchors.now a.radii.now a.kind a.numbers.now a.flags.now _ _ (build_opening _ _ _ _ _ _ (says c.before.before).0 _ _ (sym c.open_drawing-opened.ensures ∙ c.in-Refused.is)) in
     (h.0, (h.1, h.2))
 
-returns-3 : tie.Need-returns-3
+returns-3 : tie.Need-returns-in_default-known
 returns-3 c =
-    let a = c.before.before.before.before.before.before.before.before.before.before.before.before.before.before.before.before.before.args in
-    let s = says c.before.before.before.before.before.before.before in
-    let h = build_refuses a.shapes.now a.anchors.now a.radii.now a.kind a.numbers.now a.flags.now 5 _ (build-kind _ _ _ _ _ _ s.0 _ (opens c.before.before.before) _ s.1 (sym c.before.before.kind-of.ensures ∙ c.enum-told3.given.1)) in
+    let a = c.args in
+    let s = says c.before.before.before.before in
+    let h = build_refuses a.shapes.now a.anchors.now a.radii.now a.kind a.numbers.now a.flags.now 5 _ (build-kind _ _ _ _ _ _ s.0 _ (opens c.before.before) _ s.1 (sym c.kind_of-known.ensures ∙ c.in_default-known.is)) in
     (h.0, (h.1, h.2))
 
-build-small-requires : tie.Need-build-small-requires
+build-small-requires : tie.Need-build_small-requires
 build-small-requires c κs =
-    let s = says c.before.before.before.before.before.before.before.before.before.before.before in
+    let s = says c.before.before.before.before.before.before.before in
     let n = s.1 in
     let f = fits_says _ _ _ s.0 in
-    let o = opens c.before.before.before.before.before.before.before in
+    let o = opens c.before.before.before.before.before in
     ((o.words, omega arith, o.long, o.radius_each), (f.long, f.flag_each))
 
-returns-4 : tie.Need-returns-4
+returns-4 : tie.Need-returns-then-places-le32
 returns-4 c =
-    let a = c.before.before.before.before.before.before.before.before.before.before.before.before.before.before.before.before.before.before.before.before.before.before.before.before.before.before.args in
-    let h = c.before.before.before.before.build-small.ensures in
-    let s = (says c.before.before.before.before.before.before.before.before.before.before.before.before.before.before.before.before).0 in
-    let o = opens c.before.before.before.before.before.before.before.before.before.before.before.before in
-    let k = known c.before.before.before.before.before.before.before.before.before in (
+    let a = c.args in
+    let h = c.build_small.ensures in
+    let s = (says c.before.before.before.before.before.before.before.before.before.before.before.before).0 in
+    let o = opens c.before.before.before.before.before.before.before.before.before.before in
+    let k = known c.before.before.before.before.before.before.before.before in (
       h.0 ∙ build-answers a.shapes.now a.anchors.now a.radii.now a.kind a.numbers.now a.flags.now s _ o _ k,
       (
         h.1.0 ∙ build-numbers a.shapes.now a.anchors.now a.radii.now a.kind a.numbers.now a.flags.now s _ o _ k,
@@ -65,19 +65,19 @@ returns-4 c =
       ),
     )
 
-build-large-requires : tie.Need-build-large-requires
+build-large-requires : tie.Need-build_large-requires
 build-large-requires c κs =
-    let f = fits_says _ _ _ (says c.before.before.before.before.before.before.before.before.before.before.before).0 in
-    let o = opens c.before.before.before.before.before.before.before in
+    let f = fits_says _ _ _ (says c.before.before.before.before.before.before.before).0 in
+    let o = opens c.before.before.before.before.before in
     ((o.words, o.few, o.long, o.radius_each), (f.long, f.flag_each))
 
-returns-5 : tie.Need-returns-5
+returns-5 : tie.Need-returns
 returns-5 c =
-    let a = c.before.before.before.before.before.before.before.before.before.before.before.before.before.before.before.before.before.before.before.before.before.before.before.before.before.before.args in
-    let h = c.before.before.before.before.build-large.ensures in
-    let s = (says c.before.before.before.before.before.before.before.before.before.before.before.before.before.before.before.before).0 in
-    let o = opens c.before.before.before.before.before.before.before.before.before.before.before.before in
-    let k = known c.before.before.before.before.before.before.before.before.before in (
+    let a = c.args in
+    let h = c.build_large.ensures in
+    let s = (says c.before.before.before.before.before.before.before.before.before.before.before.before).0 in
+    let o = opens c.before.before.before.before.before.before.before.before.before.before in
+    let k = known c.before.before.before.before.before.before.before.before in (
       h.0 ∙ build-answers a.shapes.now a.anchors.now a.radii.now a.kind a.numbers.now a.flags.now s _ o _ k,
       (
         h.1.0 ∙ build-numbers a.shapes.now a.anchors.now a.radii.now a.kind a.numbers.now a.flags.now s _ o _ k,
@@ -85,8 +85,8 @@ returns-5 c =
       ),
     )
 
-pub build-spec : {M : Type 1} → statement M
-build-spec =
+pub build_spec : {M : Type 1} → statement M
+build_spec =
     tie.close
     (tie.spec
     (λ c κs. tt)

@@ -8,13 +8,13 @@ use Rattle.cache.proofs.building.build_small.Tie as tie
 
 returns : tie.Need-returns
 returns c =
-    let a = c.before.before.before.before.before.before.before.before.before.before.before.before.before.before.before.before.before.before.before.before.before.before.before.before.before.args in
-    let h = c.before.before.before.before.write-cache.ensures in
-    let held = laid-holds a.shapes.now a.anchors.now a.radii.now a.kind _ _ c.before.before.before.before.before.before.before.before.before.before.before.before.before.before.lay-drawing.ensures.1.1 in
+    let a = c.args in
+    let h = c.write_cache.ensures in
+    let held = laid-holds a.shapes.now a.anchors.now a.radii.now a.kind _ _ c.lay_drawing.ensures.1.1 in
     (h.0 ∙ answer-held _ _ _ _ held (length a.shapes.now), (h.1.0 ∙ numbers-held _ _ _ _ held a.numbers.now, h.1.1 ∙ flags_held _ _ _ _ held a.flags.now))
 
-pub build-small-spec : {M : Type 1} → statement M
-build-small-spec =
+pub build_small_spec : {M : Type 1} → statement M
+build_small_spec =
     tie.close
     (tie.spec
     (λ c. search rules)

@@ -4,7 +4,6 @@ use mathlib.Core.Path.{◌≡◌, refl, sym, ◌∙◌}
 use mathlib.Core.Bool.{true}
 use borrow.Author.Rules.{rules}
 use borrow.Author.Count.{below_none, below_more}
-use borrow.Author.Tests.{not-true, not-false}
 use native.Mathlib.Omega.{arith}
 use Rattle.views.specs.View.{entry}
 use Rattle.real.specs.Limit.{in_limit}
@@ -16,10 +15,10 @@ use Rattle.cache.proofs.writing.first_bad_place.Statement.{statement}
 use Rattle.cache.proofs.writing.first_bad_place.Tie as tie
 
 -- the numbers of place k below number i are in limit
-abbrev invariant-loop : tie.invariant-loop
+abbrev invariant-loop : tie.invariant-loop-i
 invariant-loop numbers n found₀ k i₀ found i = (i ≤ 12) × (found ≡ Nothing) × (k < n) × ((q : ℕ) → q < i → in_limit (entry numbers (k * 12 + q)) ≡ true)
 
-abbrev decreases-loop : tie.decreases-loop
+abbrev decreases-loop : tie.decreases-loop-i
 decreases-loop numbers n found₀ k i₀ found i = 12 - i
 
 -- the places below k are good
@@ -32,34 +31,31 @@ decreases-places numbers n found₀ k₀ found k = n - k
 places-holds : tie.Need-places-init invariant-loop decreases-loop invariant-places decreases-places
 places-holds c = (search rules, refl, below_none _)
 
-loop-holds : tie.Need-loop-init invariant-loop decreases-loop invariant-places decreases-places
-loop-holds c = (omega arith, c.before.places.invariant.1, omega arith, below_none _)
+loop-holds : tie.Need-loop-i-init invariant-loop decreases-loop invariant-places decreases-places
+loop-holds c = (omega arith, c.places.invariant.1, omega arith, below_none _)
 
-loop-again : tie.Need-loop-preserved invariant-loop decreases-loop invariant-places decreases-places
+loop-again : tie.Need-loop-i-preserved invariant-loop decreases-loop invariant-places decreases-places
 loop-again c =
-    let w = c.before.before.before.before.loop in
-    (omega arith, w.invariant.1, w.invariant.2, below_more _ _ w.invariant.3 (sym c.before.in_limit_lem.ensures ∙ not-false _ c.if1.false))
+    let w = c.loop-i in
+    (omega arith, w.invariant.1, w.invariant.2, below_more _ _ w.invariant.3 (sym c.in_limit.ensures ∙ c.if-not-in_limit.false))
 
 places-again : tie.Need-places-preserved invariant-loop decreases-loop invariant-places decreases-places
 places-again c =
-    let w = c.before in
-    let l = w.before.before.places in
-    (omega arith, w.loop.invariant.1, below_more _ _ l.invariant.2 (twelve_in_lem _ l.k (λ q h. w.loop.invariant.3 q (omega arith))))
+    let l = c.places in
+    (omega arith, c.loop-i.invariant.1, below_more _ _ l.invariant.2 (twelve_in_lem _ l.k (λ q h. c.loop-i.invariant.3 q (omega arith))))
 
-returns : tie.Need-returns invariant-loop decreases-loop invariant-places decreases-places
+returns : tie.Need-returns-after-places invariant-loop decreases-loop invariant-places decreases-places
 returns c =
-    let p = c.before in
-    p.places.invariant.1 ∙ sym ((none_is _ _).1 (λ j h. p.places.invariant.2 j (omega arith)))
+    c.places.invariant.1 ∙ sym ((none_is _ _).1 (λ j h. c.places.invariant.2 j (omega arith)))
 
-returns-2 : tie.Need-returns-2 invariant-loop decreases-loop invariant-places decreases-places
+returns-2 : tie.Need-returns-then-not-in_limit invariant-loop decreases-loop invariant-places decreases-places
 returns-2 c =
-    let w = c.before.before.before.before in
-    let l = w.before.before.places in
-    let out = twelve_out _ l.k w.loop.i (omega arith) (sym c.before.in_limit_lem.ensures ∙ not-true _ c.if1.true) in
-    sym ((first_is _ _ _).1 (record { place = w.loop.invariant.2; bad = out; below = l.invariant.2 }))
+    let l = c.places in
+    let out = twelve_out _ l.k c.loop-i.i (omega arith) (sym c.in_limit.ensures ∙ c.if-not-in_limit.true) in
+    sym ((first_is _ _ _).1 (record { place = c.loop-i.invariant.2; bad = out; below = l.invariant.2 }))
 
-pub first-bad-place-spec : {M : Type 1} → statement M
-first-bad-place-spec =
+pub first_bad_place_spec : {M : Type 1} → statement M
+first_bad_place_spec =
     tie.close
     (tie.spec
     invariant-loop

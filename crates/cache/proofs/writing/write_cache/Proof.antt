@@ -12,23 +12,23 @@ use Rattle.cache.proofs.Outcomes.{cache_bad, cache_good}
 use Rattle.cache.proofs.writing.write_cache.Statement.{statement}
 use Rattle.cache.proofs.writing.write_cache.Tie as tie
 
-found : (c : tie.After-first-bad-place) → let a = c.before.before.before.before.before.before.before.args in c.first-bad-place.result ≡ first_bad (twelve_in a.laid.now) (total a.shapes.now)
-found c = c.first-bad-place.ensures ∙ ap (first_bad (twelve_in c.before.before.before.before.before.before.before.args.laid.now)) c.before.total_of.ensures
+found : (c : tie.After-first_bad_place-bad) → let a = c.args in c.first_bad_place-bad.result ≡ first_bad (twelve_in a.laid.now) (total a.shapes.now)
+found c = c.first_bad_place-bad.ensures ∙ ap (first_bad (twelve_in c.args.laid.now)) c.total_of-n.ensures
 
-returns : tie.Need-returns
+returns : tie.Need-returns-in-At
 returns c =
-    let v = cache_bad _ _ _ ((first_is _ _ _).0 (sym (found c.before.before.before) ∙ c.before.bad.given.1)) in
+    let v = cache_bad _ _ _ ((first_is _ _ _).0 (sym (found c.before) ∙ c.in-At.is)) in
     (outline-refused _ _ v, (list_kept _ _ _ v, list_kept _ _ _ v))
 
-returns-2 : tie.Need-returns-2
+returns-2 : tie.Need-returns
 returns-2 c =
-    let a = c.before.before.before.before.before.before.before.before.before.before.before.before.before.before.before.before.before.args in
-    let n = c.before.before.before.before.before.before.before.before.before.before.before.total_of.ensures in
-    let v = cache_good _ _ ((none_is _ _).0 (sym (found c.before.before.before.before.before.before.before.before.before.before) ∙ c.before.before.before.before.before.before.before.before.enum_told.given.1)) in
-    (ap (Accepted (length a.shapes.now)) n ∙ outline_accepted _ _ v, (c.before.before.before.before.before.before.copy.ensures ∙ rw n (list_written _ _ _ v), c.before.before.copy-words.ensures ∙ rw n (list_written _ _ _ v)))
+    let a = c.args in
+    let n = c.total_of-n.ensures in
+    let v = cache_good _ _ ((none_is _ _).0 (sym (found c.before.before.before.before.before.before.before.before.before) ∙ c.in_default.is)) in
+    (ap (Accepted (length a.shapes.now)) n ∙ outline_accepted _ _ v, (c.copy.ensures ∙ rw n (list_written _ _ _ v), c.copy_words.ensures ∙ rw n (list_written _ _ _ v)))
 
-pub write-cache-spec : {M : Type 1} → statement M
-write-cache-spec =
+pub write_cache_spec : {M : Type 1} → statement M
+write_cache_spec =
     tie.close
     (tie.spec
     (λ c κs. search rules)

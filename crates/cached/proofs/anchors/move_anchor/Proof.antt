@@ -22,54 +22,53 @@ lists c = let a = c.args in lent a.shapes.now a.anchors.now a.radii.now a.number
 abbrev call : tie.Start → Call
 call c = move c.args.at.subpath c.args.at.anchor c.args.new
 
-returns : tie.Need-returns
+returns : tie.Need-returns-then-number-ne0
 unfolding anchor_call
 returns c =
-    let s = c.before.before.before.before.before.before.before.before.before.before in
-    does-refuse (lists s) s.args.kind (call s) _ _ (⊎_elim (λ h. h.1) (λ h. absurd (c.if1.true h.0)) c.before.plan-edit.ensures)
+    let s = c.before.before.before.before.before.before.before in
+    does-refuse (lists s) c.args.kind (call s) _ _ (⊎_elim (λ h. h.1) (λ h. absurd (c.if-number-ne0.true h.0)) c.plan_edit-plan.ensures)
 
-allowed : (c : tie.Else1) → Allowed (lists c.before.before.before.before.before.before.before.before.before.before) c.before.before.before.before.before.before.before.before.before.before.args.kind (call c.before.before.before.before.before.before.before.before.before.before) c.before.before.before.before.before.before.before.before.before.before.args.at.subpath c.before.before.before.before.before.before.before.before.before.before.args.at.anchor 3 c.before.plan-edit.result
+allowed : (c : tie.Else-number-ne0) → Allowed (lists c.before.before.before.before.before.before.before) c.args.kind (call c.before.before.before.before.before.before.before) c.args.at.subpath c.args.at.anchor 3 c.plan_edit-plan.result
 unfolding anchor_call reach_of
-allowed c = ⊎_elim (λ h. absurd (h.0 c.if1.false)) (λ h. h.1) c.before.plan-edit.ensures
+allowed c = ⊎_elim (λ h. absurd (h.0 c.if-number-ne0.false)) (λ h. h.1) c.plan_edit-plan.ensures
 
-record Here (c : tie.After-sub-at) : Type 0 where
-  pub index : c.before.before.before.before.before.before.before.before.before.before.before.args.at.anchor < c.sub_at.result.n
-  pub inside : Inside (lists c.before.before.before.before.before.before.before.before.before.before.before) c.sub_at.result
+record Here (c : tie.After-sub_at-sub) : Type 0 where
+  pub index : c.args.at.anchor < c.sub_at-sub.result.n
+  pub inside : Inside (lists c.before.before.before.before.before.before.before.before) c.sub_at-sub.result
 
-here : (c : tie.After-sub-at) → Here c
+here : (c : tie.After-sub_at-sub) → Here c
 unfolding edit_of moved drawn
 here c =
     record {
-      index = rw c.sub_at.ensures (allowed c.before).index;
-      inside = inside_of (lists c.before.before.before.before.before.before.before.before.before.before.before) c.before.before.before.before.before.before.before.before.before.before.before.args.at.subpath (allowed c.before).stands c.sub_at.result c.sub_at.ensures;
+      index = rw c.sub_at-sub.ensures (allowed c.before).index;
+      inside = inside_of (lists c.before.before.before.before.before.before.before.before) c.args.at.subpath (allowed c.before).stands c.sub_at-sub.result c.sub_at-sub.ensures;
     }
 
-write-places-requires : tie.Need-write-places-requires
+write-places-requires : tie.Need-write_places-requires
 unfolding edit_of moved drawn reach_of
 write-places-requires c κs =
     let b = c.before.before.before.before.before.before.before.before.before.before.before.before in
     let h = here b in
-    let w = (allowed b.before).places in
-    let e = b.sub_at.ensures in
-    let r = c.before.before.before.before.before.before.before.before.before.before.before.reach_of.ensures in
+    let w = (allowed c.before.before.before.before.before.before.before.before.before.before.before.before.before).places in
+    let e = c.sub_at-sub.ensures in
+    let r = c.reach_of.ensures in
     let p = h.inside.path in
     ((omega arith, rw e w.inside, h.index, rw r (omega arith)), (rw (r, e) w.few, (h.inside.numbers, h.inside.flags)))
 
-returns-2 : tie.Need-returns-2
+returns-2 : tie.Need-returns
 unfolding edit_of moved drawn sub_at view_in view_of reach_of
 returns-2 c =
-    let s = c.before.before.before.before.before.before.before.before.before.before.before.before.before.before.before.before.before.before.before.before.before.before.before.before.before.before.before.before in
-    let b = c.before.before.before.before.before.before.before.before.before.before.before.before.before.before.before.before.before in
-    let w = allowed b.before in
-    let e = b.sub_at.ensures in
-    let r = c.before.before.before.before.before.before.before.before.before.before.before.before.before.before.before.before.reach_of.ensures in
-    let g = c.before.before.before.before.write-places.ensures in
-    let v = view_in (edit_of (drawn (lists s) s.args.kind) (call s)).made s.args.at.subpath in
-    move_done (lists s) s.args.kind s.args.at.subpath s.args.at.anchor s.args.new b.before.before.plan-edit.result w _ _ _ (c.before.before.before.before.before.before.before.before.before.before.before.put-anchor.ensures ∙ rw e)
+    let s = c.before.before.before.before.before.before.before.before.before.before.before.before.before.before.before.before.before.before.before.before.before.before.before.before.before in
+    let w = allowed c.before.before.before.before.before.before.before.before.before.before.before.before.before.before.before.before.before.before in
+    let e = c.sub_at-sub.ensures in
+    let r = c.reach_of.ensures in
+    let g = c.write_places.ensures in
+    let v = view_in (edit_of (drawn (lists s) c.args.kind) (call s)).made c.args.at.subpath in
+    move_done (lists s) c.args.kind c.args.at.subpath c.args.at.anchor c.args.new c.plan_edit-plan.result w _ _ _ (c.put_anchor.ensures ∙ rw e)
     (g.0 v (rw (r, e) (refl, refl, w.places.numbers)) ∙ rw (r, e)) (g.1 v (rw (r, e) (refl, refl, w.places.flags)) ∙ rw (r, e))
 
-pub move-anchor-spec : {M : Type 1} → statement M
-move-anchor-spec =
+pub move_anchor_spec : {M : Type 1} → statement M
+move_anchor_spec =
     tie.close
     (tie.spec
     (λ c κs. tt)

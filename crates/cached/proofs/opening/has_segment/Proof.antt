@@ -5,16 +5,16 @@ use Rattle.edit.specs.Split.{has_segment}
 use Rattle.cached.proofs.opening.has_segment.Statement.{statement}
 use Rattle.cached.proofs.opening.has_segment.Tie as tie
 
-returns : tie.Need-returns
+returns : tie.Need-returns-then-shapes-s
 unfolding has_segment
-returns c = rw (le-ltb _ _ c.if1.true)
+returns c = rw (le-ltb _ _ c.if-shapes-s.true)
 
-returns-2 : tie.Need-returns-2
+returns-2 : tie.Need-returns
 unfolding has_segment
-returns-2 c = rw (lt-ltb _ _ c.before.before.before.before.before.if1.false, ← c.before.before.before.count_of.ensures, ← c.before.Closed-of.ensures) c.has-segment.ensures
+returns-2 c = rw (lt-ltb _ _ c.if-shapes-s.false, ← c.count_of-count.ensures, ← c.closed_of.ensures) c.has_segment.ensures
 
-pub has-segment-spec : {M : Type 1} → statement M
-has-segment-spec =
+pub has_segment_spec : {M : Type 1} → statement M
+has_segment_spec =
     tie.close
     (tie.spec
     returns

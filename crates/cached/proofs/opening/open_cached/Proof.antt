@@ -6,18 +6,18 @@ use Rattle.cached.proofs.Openings.{cached_wrong, cached_drawing}
 use Rattle.cached.proofs.opening.open_cached.Statement.{statement}
 use Rattle.cached.proofs.opening.open_cached.Tie as tie
 
-returns : tie.Need-returns
+returns : tie.Need-returns-in_default
 returns c =
-    let a = c.before.before.before.before.before.before.before.before.args in
-    cached_wrong (lent a.shapes.now a.anchors.now a.radii.now a.numbers.now a.flags.now) (sym c.before.before.size-test.ensures ∙ c.enum_told.given.1)
+    let a = c.args in
+    cached_wrong (lent a.shapes.now a.anchors.now a.radii.now a.numbers.now a.flags.now) (sym c.size_test-size.ensures ∙ c.in_default.is)
 
-returns-2 : tie.Need-returns-2
+returns-2 : tie.Need-returns
 returns-2 c =
-    let a = c.before.before.before.before.before.before.before.before.before.before.args in
-    c.open-drawing.ensures ∙ cached_drawing (lent a.shapes.now a.anchors.now a.radii.now a.numbers.now a.flags.now) _ (sym c.before.before.before.before.size-test.ensures ∙ c.before.before.size.given.1)
+    let a = c.args in
+    c.open_drawing.ensures ∙ cached_drawing (lent a.shapes.now a.anchors.now a.radii.now a.numbers.now a.flags.now) _ (sym c.size_test-size.ensures ∙ c.in-Anchors.is)
 
-pub open-cached-spec : {M : Type 1} → statement M
-open-cached-spec =
+pub open_cached_spec : {M : Type 1} → statement M
+open_cached_spec =
     tie.close
     (tie.spec
     (λ c κs. tt)

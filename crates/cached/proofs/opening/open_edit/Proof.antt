@@ -2,7 +2,6 @@
 use mathlib.Core.Path.{◌≡◌, sym, ap, ◌∙◌}
 use mathlib.Core.Bool.{◌&&◌}
 use borrow.Author.Rules.{rules}
-use borrow.Author.Tests.{not-true, not-false}
 use Rattle.views.proofs.Bools.{and_false}
 use Rattle.call.specs.declared.opening.Opened.TheVariants.{Anchors}
 use Rattle.cut_calls.specs.CornerKinds.{kind_of, is_known}
@@ -11,33 +10,33 @@ use Rattle.cached.proofs.Openings.{ready_closed, ready_loose, ready_unknown, rea
 use Rattle.cached.proofs.opening.open_edit.Statement.{statement}
 use Rattle.cached.proofs.opening.open_edit.Tie as tie
 
-opens : (c : tie.After-opened2) → let a = c.before.before.before.before.before.before.before.before.args in opened_cached (lent a.shapes.now a.anchors.now a.radii.now a.numbers.now a.flags.now) ≡ Anchors c.opened2.given.0.0
-opens c = sym c.before.before.open-cached.ensures ∙ c.opened2.given.1
+opens : (c : tie.In-Anchors) → let a = c.args in opened_cached (lent a.shapes.now a.anchors.now a.radii.now a.numbers.now a.flags.now) ≡ Anchors c.in-Anchors.n
+opens c = sym c.open_cached-opened.ensures ∙ c.in-Anchors.is
 
-returns : tie.Need-returns
+returns : tie.Need-returns-in_default
 returns c =
-    let a = c.before.before.before.before.before.before.before.before.before.before.before.before.args in
-    ready_unknown (lent a.shapes.now a.anchors.now a.radii.now a.numbers.now a.flags.now) a.kind a.loose _ (opens c.before.before.before.before) (sym c.before.before.kind-of.ensures ∙ c.enum_told.given.1)
+    let a = c.args in
+    ready_unknown (lent a.shapes.now a.anchors.now a.radii.now a.numbers.now a.flags.now) a.kind a.loose _ (opens c.before.before) (sym c.kind_of-known.ensures ∙ c.in_default.is)
 
-returns-2 : tie.Need-returns-2
+returns-2 : tie.Need-returns-then-not-loose
 returns-2 c =
-    let a = c.before.before.before.before.before.before.before.before.before.before.before.before.before.before.args in
-    ready_loose (lent a.shapes.now a.anchors.now a.radii.now a.numbers.now a.flags.now) a.kind a.loose _ (opens c.before.before.before.before.before.before)
-    (ap (λ b. is_known (kind_of a.kind) && b) (not-true _ c.if1.true) ∙ and_false (is_known (kind_of a.kind)))
+    let a = c.args in
+    ready_loose (lent a.shapes.now a.anchors.now a.radii.now a.numbers.now a.flags.now) a.kind a.loose _ (opens c.before.before.before)
+    (ap (λ b. is_known (kind_of a.kind) && b) (c.if-not-loose.true) ∙ and_false (is_known (kind_of a.kind)))
 
-returns-3 : tie.Need-returns-3
+returns-3 : tie.Need-returns-in-Refused
 returns-3 c =
-    let a = c.before.before.before.before.before.before.before.before.before.args in
-    ready_closed (lent a.shapes.now a.anchors.now a.radii.now a.numbers.now a.flags.now) a.kind a.loose _ _ (sym c.before.before.before.open-cached.ensures ∙ c.before.opened.given.1)
+    let a = c.args in
+    ready_closed (lent a.shapes.now a.anchors.now a.radii.now a.numbers.now a.flags.now) a.kind a.loose _ _ (sym c.open_cached-opened.ensures ∙ c.in-Refused.is)
 
-returns-4 : tie.Need-returns-4
+returns-4 : tie.Need-returns-else-not-loose
 returns-4 c =
-    let a = c.before.before.before.before.before.before.before.before.before.before.before.before.before.before.args in
-    ready_known (lent a.shapes.now a.anchors.now a.radii.now a.numbers.now a.flags.now) a.kind a.loose _ (opens c.before.before.before.before.before.before) _
-    (sym c.before.before.before.before.kind-of.ensures ∙ c.before.before.known.given.1) (not-false _ c.if1.false)
+    let a = c.args in
+    ready_known (lent a.shapes.now a.anchors.now a.radii.now a.numbers.now a.flags.now) a.kind a.loose _ (opens c.before.before.before) _
+    (sym c.kind_of-known.ensures ∙ c.in-Known.is) (c.if-not-loose.false)
 
-pub open-edit-spec : {M : Type 1} → statement M
-open-edit-spec =
+pub open_edit_spec : {M : Type 1} → statement M
+open_edit_spec =
     tie.close
     (tie.spec
     (λ c κs. tt)

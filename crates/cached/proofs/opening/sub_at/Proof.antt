@@ -6,10 +6,10 @@ use Rattle.cached.proofs.opening.sub_at.Tie as tie
 
 returns : tie.Need-returns
 unfolding sub_at
-returns c = rw (c.Closed-of.ensures, c.before.before.count_of.ensures, c.before.before.before.before.start_of_lem.ensures)
+returns c = rw (c.closed_of.ensures, c.count_of.ensures, c.start_of-first.ensures)
 
-pub sub-at-spec : {M : Type 1} → statement M
-sub-at-spec =
+pub sub_at_spec : {M : Type 1} → statement M
+sub_at_spec =
     tie.close
     (tie.spec
     (λ c κs. search rules)

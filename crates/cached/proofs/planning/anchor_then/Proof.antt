@@ -4,16 +4,16 @@ use Rattle.cached.specs.Planning.{anchor_then}
 use Rattle.cached.proofs.planning.anchor_then.Statement.{statement}
 use Rattle.cached.proofs.planning.anchor_then.Tie as tie
 
-returns : tie.Need-returns
+returns : tie.Need-returns-in-Move
 unfolding anchor_then
 returns c = search rules
 
-returns-2 : tie.Need-returns-2
+returns-2 : tie.Need-returns-in-Radius
 unfolding anchor_then
 returns-2 c = search rules
 
-pub anchor-then-spec : {M : Type 1} → statement M
-anchor-then-spec =
+pub anchor_then_spec : {M : Type 1} → statement M
+anchor_then_spec =
     tie.close
     (tie.spec
     (λ c. search rules)

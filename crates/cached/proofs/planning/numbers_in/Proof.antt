@@ -4,16 +4,16 @@ use Rattle.cached.specs.Planning.{numbers_in}
 use Rattle.cached.proofs.planning.numbers_in.Statement.{statement}
 use Rattle.cached.proofs.planning.numbers_in.Tie as tie
 
-returns : tie.Need-returns
+returns : tie.Need-returns-in-Move
 unfolding numbers_in
-returns c = rw c.before.before.e.given.1 c.in_limit_lem.ensures
+returns c = rw c.in-Move.is c.in_limit.ensures
 
-returns-2 : tie.Need-returns-2
+returns-2 : tie.Need-returns-in-Radius
 unfolding numbers_in
-returns-2 c = rw c.before.before.e2.given.1 c.in-limit2.ensures
+returns-2 c = rw c.in-Radius.is c.in_limit-in-Radius.ensures
 
-pub numbers-in-spec : {M : Type 1} → statement M
-numbers-in-spec =
+pub numbers_in_spec : {M : Type 1} → statement M
+numbers_in_spec =
     tie.close
     (tie.spec
     (λ c. search rules)

@@ -4,16 +4,16 @@ use Rattle.cached.specs.Planning.{radius_then}
 use Rattle.cached.proofs.planning.radius_then.Statement.{statement}
 use Rattle.cached.proofs.planning.radius_then.Tie as tie
 
-returns : tie.Need-returns
+returns : tie.Need-returns-in-Move
 unfolding radius_then
 returns c = search rules
 
-returns-2 : tie.Need-returns-2
+returns-2 : tie.Need-returns-in-Radius
 unfolding radius_then
 returns-2 c = search rules
 
-pub radius-then-spec : {M : Type 1} → statement M
-radius-then-spec =
+pub radius_then_spec : {M : Type 1} → statement M
+radius_then_spec =
     tie.close
     (tie.spec
     (λ c. search rules)

@@ -4,10 +4,10 @@ use Rattle.cached_split.proofs.making.halved.Statement.{statement}
 use Rattle.cached_split.proofs.making.halved.Tie as tie
 
 returns : tie.Need-returns
-returns c = rw (← c.before.before.anchor-at.ensures, ← c.before.anchor-at2.ensures) c.halves.ensures
+returns c = rw (← c.anchor_at.ensures, ← c.anchor_at-2.ensures) c.halves.ensures
 
-pub halved-spec : {M : Type 1} → statement M
-halved-spec =
+pub halved_spec : {M : Type 1} → statement M
+halved_spec =
     tie.close
     (tie.spec
     (λ c κs. search rules)

@@ -7,12 +7,11 @@ use Rattle.cached_split.proofs.making.put_anchors.Tie as tie
 
 returns : tie.Need-returns
 returns c =
-    let o = c.before.before.before.before.before.before.before in
-    let a = o.args in
-    c.before.before.put-halves.ensures ∙ anchors_put a.anchors.now a.n a.a a.b a.t o.requires.1 o.requires.2 o.requires.3 o.requires.4 _ c.before.before.before.before.halved.ensures
+    let a = c.args in
+    c.put_halves.ensures ∙ anchors_put a.anchors.now a.n a.a a.b a.t c.requires.1 c.requires.2 c.requires.3 c.requires.4 _ c.halved-h.ensures
 
-pub put-anchors-spec : {M : Type 1} → statement M
-put-anchors-spec =
+pub put_anchors_spec : {M : Type 1} → statement M
+put_anchors_spec =
     tie.close
     (tie.spec
     (λ c κs. search rules)

@@ -8,12 +8,11 @@ use Rattle.cached_split.proofs.making.put_radius.Tie as tie
 
 returns : tie.Need-returns
 returns c =
-    let o = c.before.before.before.before.before in
-    let a = o.args in
-    rw c.before.before.shift-up.ensures (radii_put a.radii.now a.n a.a o.requires.1 o.requires.2)
+    let a = c.args in
+    rw c.shift_up.ensures (radii_put a.radii.now a.n a.a c.requires.1 c.requires.2)
 
-pub put-radius-spec : {M : Type 1} → statement M
-put-radius-spec =
+pub put_radius_spec : {M : Type 1} → statement M
+put_radius_spec =
     tie.close
     (tie.spec
     (λ c κs. search rules)

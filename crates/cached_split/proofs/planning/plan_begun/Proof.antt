@@ -7,7 +7,7 @@ use native.Mathlib.Omega.{arith}
 use lib.Dec.{ltb}
 use lib.ListN.{length}
 use borrow.Author.Rules.{rules}
-use borrow.Author.Tests.{not-true, not-false, lt-ltb}
+use borrow.Author.Tests.{lt-ltb}
 use Rattle.views.proofs.Bools.{or_left, or_right}
 use Rattle.path.specs.Shape.{count_of, closed_of, word_at, start, next}
 use Rattle.path.specs.declared.limit.Found.TheVariants.{Nothing}
@@ -29,30 +29,30 @@ abbrev lists : tie.Start → Lent
 lists c = let a = c.args in lent a.shapes.now a.anchors.now a.radii.now a.numbers.now a.flags.now
 
 -- the subpath in them
-record Here (c : tie.After-sub-at) : Type 0 where
-  pub first : c.sub_at.result.first ≡ start c.before.before.before.before.before.before.before.args.shapes.now c.before.before.before.before.before.before.before.args.at.subpath
-  pub size : c.sub_at.result.n ≡ count_of (word_at c.before.before.before.before.before.before.before.args.shapes.now c.before.before.before.before.before.before.before.args.at.subpath)
-  pub closed : c.sub_at.result.closed ≡ closed_of (word_at c.before.before.before.before.before.before.before.args.shapes.now c.before.before.before.before.before.before.before.args.at.subpath)
+record Here (c : tie.After-sub_at-sub) : Type 0 where
+  pub first : c.sub_at-sub.result.first ≡ start c.args.shapes.now c.args.at.subpath
+  pub size : c.sub_at-sub.result.n ≡ count_of (word_at c.args.shapes.now c.args.at.subpath)
+  pub closed : c.sub_at-sub.result.closed ≡ closed_of (word_at c.args.shapes.now c.args.at.subpath)
 
-here : (c : tie.After-sub-at) → Here c
+here : (c : tie.After-sub_at-sub) → Here c
 unfolding sub_at
-here c = let e = c.sub_at.ensures in record { first = ap (λ x. x.first) e; size = ap (λ x. x.n) e; closed = ap (λ x. x.closed) e }
+here c = let e = c.sub_at-sub.ensures in record { first = ap (λ x. x.first) e; size = ap (λ x. x.n) e; closed = ap (λ x. x.closed) e }
 
-record In (c : tie.After-sub-at) : Type 0 where
-  pub index : c.before.before.before.before.before.before.before.args.at.anchor < c.sub_at.result.n
-  pub next-index : next c.sub_at.result.n c.before.before.before.before.before.before.before.args.at.anchor < c.sub_at.result.n
-  pub other : c.before.before.before.before.before.before.before.args.at.anchor ≡ next c.sub_at.result.n c.before.before.before.before.before.before.before.args.at.anchor → ⊥
-  pub path : c.sub_at.result.first + c.sub_at.result.n ≤ c.before.before.before.before.before.before.before.args.d.n
-  pub few : c.before.before.before.before.before.before.before.args.d.n < 512
-  pub anchors : c.before.before.before.before.before.before.before.args.d.n * 6 ≤ length c.before.before.before.before.before.before.before.args.anchors.now
-  pub radii : c.before.before.before.before.before.before.before.args.d.n ≤ length c.before.before.before.before.before.before.before.args.radii.now
-  pub leaving : (c.sub_at.result.closed || ltb (c.before.before.before.before.before.before.before.args.at.anchor + 1 + 1) (c.sub_at.result.n + 1)) ≡ true
+record In (c : tie.After-sub_at-sub) : Type 0 where
+  pub index : c.args.at.anchor < c.sub_at-sub.result.n
+  pub next-index : next c.sub_at-sub.result.n c.args.at.anchor < c.sub_at-sub.result.n
+  pub other : c.args.at.anchor ≡ next c.sub_at-sub.result.n c.args.at.anchor → ⊥
+  pub path : c.sub_at-sub.result.first + c.sub_at-sub.result.n ≤ c.args.d.n
+  pub few : c.args.d.n < 512
+  pub anchors : c.args.d.n * 6 ≤ length c.args.anchors.now
+  pub radii : c.args.d.n ≤ length c.args.radii.now
+  pub leaving : (c.sub_at-sub.result.closed || ltb (c.args.at.anchor + 1 + 1) (c.sub_at-sub.result.n + 1)) ≡ true
 
-inside : (c : tie.After-sub-at) → In c
+inside : (c : tie.After-sub_at-sub) → In c
 inside c =
     let s = c.before.before.before.before.before.before.before in
-    let a = s.args.at.anchor in
-    let pl = placed (lists s) s.args.d.kind s.args.at.subpath s.args.at.anchor s.args.t s.args.d.n s.args.d.way s.requires.ready s.requires.segment in
+    let a = c.args.at.anchor in
+    let pl = placed (lists s) c.args.d.kind c.args.at.subpath c.args.at.anchor c.args.t c.args.d.n c.args.d.way c.requires.ready c.requires.segment in
     let h = here c in
     let f = h.first in
     let n = h.size in
@@ -62,31 +62,31 @@ inside c =
       next-index = rw n pl.next-inside;
       other = rw n pl.other;
       path = omega arith;
-      few = s.requires.few;
+      few = c.requires.few;
       anchors = pl.anchors;
       radii = pl.radii;
       leaving = ⊎_elim
-          (λ g. or_right c.sub_at.result.closed (ltb (a + 1 + 1) (c.sub_at.result.n + 1)) (lt-ltb (a + 1 + 1) (c.sub_at.result.n + 1) (let y = g in omega arith)))
-          (λ g. or_left c.sub_at.result.closed (ltb (a + 1 + 1) (c.sub_at.result.n + 1)) (h.closed ∙ g.0))
-          (segment_cases _ _ a (seg (lists s) s.args.d.kind s.args.at.subpath s.args.at.anchor s.args.t s.args.d.n s.args.d.way s.requires.ready s.requires.segment));
+          (λ g. or_right c.sub_at-sub.result.closed (ltb (a + 1 + 1) (c.sub_at-sub.result.n + 1)) (lt-ltb (a + 1 + 1) (c.sub_at-sub.result.n + 1) (let y = g in omega arith)))
+          (λ g. or_left c.sub_at-sub.result.closed (ltb (a + 1 + 1) (c.sub_at-sub.result.n + 1)) (h.closed ∙ g.0))
+          (segment_cases _ _ a (seg (lists s) c.args.d.kind c.args.at.subpath c.args.at.anchor c.args.t c.args.d.n c.args.d.way c.requires.ready c.requires.segment));
     }
 
 -- its ends
-record Ends (c : tie.After-struct-known3) : Type 0 where
-  pub from : c.before.before.before.sub_at.result.first + c.before.before.before.before.before.before.before.before.before.before.args.at.anchor < c.before.before.before.before.before.before.before.before.before.before.args.d.n
-  pub to : c.before.before.before.sub_at.result.first + c.before.next.result < c.before.before.before.before.before.before.before.before.before.before.args.d.n
-  pub apart : c.before.before.before.sub_at.result.first + c.before.before.before.before.before.before.before.before.before.before.args.at.anchor ≡ c.before.before.before.sub_at.result.first + c.before.next.result → ⊥
+record Ends (c : tie.After-struct_known-3-1) : Type 0 where
+  pub from : c.sub_at-sub.result.first + c.args.at.anchor < c.args.d.n
+  pub to : c.sub_at-sub.result.first + c.next.result < c.args.d.n
+  pub apart : c.sub_at-sub.result.first + c.args.at.anchor ≡ c.sub_at-sub.result.first + c.next.result → ⊥
 
-ends : (c : tie.After-struct-known3) → Ends c
+ends : (c : tie.After-struct_known-3-1) → Ends c
 ends c =
     let i = inside c.before.before.before in
     let x = i.index in
     let y = i.next-index in
     let z = i.path in
-    let e = c.before.next.ensures in
+    let e = c.next.ensures in
     record { from = omega arith; to = omega arith; apart = λ q. i.other (omega arith) }
 
-halved-requires : tie.Need-halved-requires
+halved-requires : tie.Need-halved-h-requires
 halved-requires c κs =
     let d = ends c in
     let x = d.from in
@@ -95,36 +95,36 @@ halved-requires c κs =
     (omega arith, omega arith)
 
 -- the ends of the segment as the definitions have them
-record Named (c : tie.After-struct-known3) : Type 0 where
-  pub from : c.before.before.before.sub_at.result.first + c.before.before.before.before.before.before.before.before.before.before.args.at.anchor ≡ segment_start c.before.before.before.before.before.before.before.before.before.before.args.shapes.now c.before.before.before.before.before.before.before.before.before.before.args.at.subpath c.before.before.before.before.before.before.before.before.before.before.args.at.anchor
-  pub to : c.before.before.before.sub_at.result.first + c.before.next.result ≡ segment_end c.before.before.before.before.before.before.before.before.before.before.args.shapes.now c.before.before.before.before.before.before.before.before.before.before.args.at.subpath c.before.before.before.before.before.before.before.before.before.before.args.at.anchor
+record Named (c : tie.After-struct_known-3-1) : Type 0 where
+  pub from : c.sub_at-sub.result.first + c.args.at.anchor ≡ segment_start c.args.shapes.now c.args.at.subpath c.args.at.anchor
+  pub to : c.sub_at-sub.result.first + c.next.result ≡ segment_end c.args.shapes.now c.args.at.subpath c.args.at.anchor
 
-named : (c : tie.After-struct-known3) → Named c
+named : (c : tie.After-struct_known-3-1) → Named c
 unfolding segment_start segment_end
 named c =
     let h = here c.before.before.before in
-    record { from = rw h.first; to = rw (c.before.next.ensures, h.first, h.size) }
+    record { from = rw h.first; to = rw (c.next.ensures, h.first, h.size) }
 
 -- the first anchor put that breaks the limit
-found : (c : tie.After-first-put) → let a = c.before.before.before.before.before.before.before.before.before.before.before.before.args in c.first-put.result ≡ puts_found (anchor_at a.anchors.now) (segment_start a.shapes.now a.at.subpath a.at.anchor) (segment_end a.shapes.now a.at.subpath a.at.anchor) a.t (a.d.n + 1)
+found : (c : tie.After-first_put-bad) → let a = c.args in c.first_put-bad.result ≡ puts_found (anchor_at a.anchors.now) (segment_start a.shapes.now a.at.subpath a.at.anchor) (segment_end a.shapes.now a.at.subpath a.at.anchor) a.t (a.d.n + 1)
 unfolding puts_found
 found c =
     let d = ends c.before.before in
     let m = named c.before.before in
-    rw (← m.from, ← m.to, ← c.before.halved.ensures) (c.first-put.ensures c.before.before.before.before.before.before.before.before.before.before.before.before.args.d.n d.from d.to)
+    rw (← m.from, ← m.to, ← c.halved-h.ensures) (c.first_put-bad.ensures c.args.d.n d.from d.to)
 
-returns : tie.Need-returns
+returns : tie.Need-returns-in-At
 returns c =
-    let s = c.before.before.before.before.before.before.before.before.before.before.before.before.before.before.before.before in
+    let s = c.before.before.before.before.before.before.before.before.before.before.before.before.before.before in
     let n = c.refuse.ensures.0 in
-    inl ((λ z. omega arith), split-put_bad (lists s) s.args.d.kind s.args.at.subpath s.args.at.anchor s.args.t s.args.d.n s.args.d.way s.requires.ready s.requires.segment s.requires.few _ (sym (found c.before.before.before.before) ∙ c.before.before.bad.given.1) ∙ sym (rw (c.refuse.ensures.0, c.refuse.ensures.1)))
+    inl ((λ z. omega arith), split-put_bad (lists s) c.args.d.kind c.args.at.subpath c.args.at.anchor c.args.t c.args.d.n c.args.d.way c.requires.ready c.requires.segment c.requires.few _ (sym (found c.before.before) ∙ c.in-At.is) ∙ sym (rw (c.refuse.ensures.0, c.refuse.ensures.1)))
 
-none : (c : tie.After-enum-told) → let a = c.before.before.before.before.before.before.before.before.before.before.before.before.before.before.args in puts_found (anchor_at a.anchors.now) (segment_start a.shapes.now a.at.subpath a.at.anchor) (segment_end a.shapes.now a.at.subpath a.at.anchor) a.t (a.d.n + 1) ≡ Nothing
-none c = sym (found c.before.before) ∙ c.enum_told.given.1
+none : (c : tie.In_default) → let a = c.args in puts_found (anchor_at a.anchors.now) (segment_start a.shapes.now a.at.subpath a.at.anchor) (segment_end a.shapes.now a.at.subpath a.at.anchor) a.t (a.d.n + 1) ≡ Nothing
+none c = sym (found c.before) ∙ c.in_default.is
 
-plan-halves-requires : tie.Need-plan-halves-requires
+plan-halves-requires : tie.Need-plan_halves-plan-requires
 plan-halves-requires c κs =
-    let i = inside c.before.before.before.before.before.before.before in
+    let i = inside c.before.before.before.before.before.before in
     let p = i.path in
     let f = i.few in
     let x = i.anchors in
@@ -132,46 +132,46 @@ plan-halves-requires c κs =
     ((omega arith, i.index, i.leaving), (omega arith, omega arith))
 
 -- what the plan of the halves decides
-decided : (c : tie.After-plan-halves) → let s = c.before.before.before.before.before.before.before.before.before.before.before.before.before.before.before in Decides (view_in (split_at (drawn (lists s) s.args.d.kind) s.args.at.subpath s.args.at.anchor s.args.t) s.args.at.subpath) (grown (sub_at s.args.shapes.now s.args.at.subpath)) (record { at = s.args.at.anchor + 1; reach = 4 }) c.plan-halves.result
+decided : (c : tie.After-plan_halves-plan) → let s = c.before.before.before.before.before.before.before.before.before.before.before.before.before.before in Decides (view_in (split_at (drawn (lists s) c.args.d.kind) c.args.at.subpath c.args.at.anchor c.args.t) c.args.at.subpath) (grown (sub_at c.args.shapes.now c.args.at.subpath)) (record { at = c.args.at.anchor + 1; reach = 4 }) c.plan_halves-plan.result
 decided c =
-    let s = c.before.before.before.before.before.before.before.before.before.before.before.before.before.before.before in
-    let e = c.before.before.before.before.before.before.before.before.sub_at.ensures in
-    let m = named c.before.before.before.before.before in
-    let hv = halving (lists s) s.args.d.kind s.args.at.subpath s.args.at.anchor s.args.t s.args.d.n s.args.d.way s.requires.ready s.requires.segment s.requires.few (none c.before) in
-    rw e at (c.plan-halves.ensures.1 (view_in (split_at (drawn (lists s) s.args.d.kind) s.args.at.subpath s.args.at.anchor s.args.t) s.args.at.subpath) (rw (c.before.before.before.before.halved.ensures, m.from, m.to, e) hv))
+    let s = c.before.before.before.before.before.before.before.before.before.before.before.before.before.before in
+    let e = c.sub_at-sub.ensures in
+    let m = named c.before.before.before.before in
+    let hv = halving (lists s) c.args.d.kind c.args.at.subpath c.args.at.anchor c.args.t c.args.d.n c.args.d.way c.requires.ready c.requires.segment c.requires.few (none c.before) in
+    rw e at (c.plan_halves-plan.ensures.1 (view_in (split_at (drawn (lists s) c.args.d.kind) c.args.at.subpath c.args.at.anchor c.args.t) c.args.at.subpath) (rw (c.halved-h.ensures, m.from, m.to, e) hv))
 
 nine : {n : ℕ} → n ≡ 9 → n ≡ 0 → ⊥
 nine x y = omega arith
 
-returns-2 : tie.Need-returns-2
+returns-2 : tie.Need-returns-then-number-ne0
 returns-2 c =
-    let s = c.before.before.before.before.before.before.before.before.before.before.before.before.before.before.before.before in
-    inl (c.if1.true, ⊎_elim (λ q. split-recut_bad (lists s) s.args.d.kind s.args.at.subpath s.args.at.anchor s.args.t s.args.d.n s.args.d.way s.requires.ready s.requires.segment s.requires.few (none c.before.before) c.before.plan-halves.result q) (λ q. absurd (c.if1.true q.0)) (decided c.before))
+    let s = c.before.before.before.before.before.before.before.before.before.before.before.before.before.before.before in
+    inl (c.if-number-ne0.true, ⊎_elim (λ q. split-recut_bad (lists s) c.args.d.kind c.args.at.subpath c.args.at.anchor c.args.t c.args.d.n c.args.d.way c.requires.ready c.requires.segment c.requires.few (none c.before.before) c.plan_halves-plan.result q) (λ q. absurd (c.if-number-ne0.true q.0)) (decided c.before))
 
-returns-3 : tie.Need-returns-3
+returns-3 : tie.Need-returns-then-not-has_room
 unfolding lengths_of
 returns-3 c =
-    let s = c.before.before.before.before.before.before.before.before.before.before.before.before.before.before.before.before.before.before.before in
-    let n = c.refuse2.ensures.0 in
-    ⊎_elim (λ q. absurd (nine q.0 c.before.before.before.if1.false))
-    (λ q. inl ((λ z. omega arith), split-short (lists s) s.args.d.kind s.args.at.subpath s.args.at.anchor s.args.t s.args.d.n s.args.d.way s.requires.ready s.requires.segment s.requires.few (none c.before.before.before.before.before) c.before.before.before.before.plan-halves.result q.1 (sym c.before.before.has_room.ensures ∙ not-true _ c.before.if2.true) ∙ sym (rw (c.refuse2.ensures.0, c.refuse2.ensures.1)))) (decided c.before.before.before.before)
+    let s = c.before.before.before.before.before.before.before.before.before.before.before.before.before.before.before.before.before.before in
+    let n = c.refuse-then-not-has_room.ensures.0 in
+    ⊎_elim (λ q. absurd (nine q.0 c.if-number-ne0.false))
+    (λ q. inl ((λ z. omega arith), split-short (lists s) c.args.d.kind c.args.at.subpath c.args.at.anchor c.args.t c.args.d.n c.args.d.way c.requires.ready c.requires.segment c.requires.few (none c.before.before.before.before.before) c.plan_halves-plan.result q.1 (sym c.has_room.ensures ∙ c.if-not-has_room.true) ∙ sym (rw (c.refuse-then-not-has_room.ensures.0, c.refuse-then-not-has_room.ensures.1)))) (decided c.before.before.before.before)
 
-returns-4 : tie.Need-returns-4
+returns-4 : tie.Need-returns
 unfolding lengths_of
 returns-4 c =
-    let s = c.before.before.before.before.before.before.before.before.before.before.before.before.before.before.before.before.before.before in
-    ⊎_elim (λ q. absurd (nine q.0 c.before.before.if1.false))
-    (λ q. inr (q.0, split-granted (lists s) s.args.d.kind s.args.at.subpath s.args.at.anchor s.args.t s.args.d.n s.args.d.way s.requires.ready s.requires.segment s.requires.few (none c.before.before.before.before) c.before.before.before.plan-halves.result q.1 (c.before.before.before.plan-halves.ensures.0 q.0) (sym c.before.has_room.ensures ∙ not-false _ c.if2.false))) (decided c.before.before.before)
+    let s = c.before.before.before.before.before.before.before.before.before.before.before.before.before.before.before.before.before in
+    ⊎_elim (λ q. absurd (nine q.0 c.if-number-ne0.false))
+    (λ q. inr (q.0, split-granted (lists s) c.args.d.kind c.args.at.subpath c.args.at.anchor c.args.t c.args.d.n c.args.d.way c.requires.ready c.requires.segment c.requires.few (none c.before.before.before.before) c.plan_halves-plan.result q.1 (c.plan_halves-plan.ensures.0 q.0) (sym c.has_room.ensures ∙ c.if-not-has_room.false))) (decided c.before.before.before)
 
-pub plan-begun-spec : {M : Type 1} → statement M
-plan-begun-spec =
+pub plan_begun_spec : {M : Type 1} → statement M
+plan_begun_spec =
     tie.close
     (tie.spec
-    (λ c. let f = c.before.before.before.before.before.before.requires.few in record { fits = omega arith })
-    (λ c κs. let s = c.before.before.before.before.before.before in let pl = placed (lists s) s.args.d.kind s.args.at.subpath s.args.at.anchor s.args.t s.args.d.n s.args.d.way s.requires.ready s.requires.segment in (pl.there, pl.words))
+    (λ c. let f = c.requires.few in record { fits = omega arith })
+    (λ c κs. let s = c.before.before.before.before.before.before in let pl = placed (lists s) c.args.d.kind c.args.at.subpath c.args.at.anchor c.args.t c.args.d.n c.args.d.way c.requires.ready c.requires.segment in (pl.there, pl.words))
     (λ c. let i = inside c.before in let x = i.index in let y = i.path in let z = i.few in record { fits = omega arith })
     (λ c κs. (inside c.before).index)
-    (λ c. let i = inside c.before.before.before in let x = i.next-index in let y = i.path in let z = i.few in let e = c.before.next.ensures in record { fits = omega arith })
+    (λ c. let i = inside c.before.before.before in let x = i.next-index in let y = i.path in let z = i.few in let e = c.next.ensures in record { fits = omega arith })
     halved-requires
     (λ c κs. let d = ends c.before in let x = d.from in let y = d.to in let z = (inside c.before.before.before.before).few in (omega arith, omega arith, d.apart))
     (λ c. search rules)
@@ -180,7 +180,7 @@ plan-begun-spec =
     (λ c. search rules)
     plan-halves-requires
     returns-2
-    (λ c κs. let z = (inside c.before.before.before.before.before.before.before.before.before).few in omega arith)
+    (λ c κs. let z = (inside c.before.before.before.before.before.before.before.before).few in omega arith)
     (λ c κs. tt)
     returns-3
     returns-4)

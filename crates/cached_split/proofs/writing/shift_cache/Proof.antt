@@ -4,10 +4,10 @@ use Rattle.cached_split.proofs.writing.shift_cache.Statement.{statement}
 use Rattle.cached_split.proofs.writing.shift_cache.Tie as tie
 
 returns : tie.Need-returns
-returns c = (c.before.before.before.before.before.before.shift-up.ensures, c.before.before.shift-flags.ensures)
+returns c = (c.shift_up.ensures, c.shift_flags.ensures)
 
-pub shift-cache-spec : {M : Type 1} → statement M
-shift-cache-spec =
+pub shift_cache_spec : {M : Type 1} → statement M
+shift_cache_spec =
     tie.close
     (tie.spec
     (λ c κs. search rules)

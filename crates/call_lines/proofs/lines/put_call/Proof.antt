@@ -15,62 +15,55 @@ use Rattle.call_lines.proofs.lines.put_call.Tie as tie
 
 put-requires : tie.Need-put-requires
 put-requires c κs =
-    let r = c.before.before.before in
-    let a = r.before.before.before.before.args in
-    omega (arith, r.put-refused-at.ensures.end, refused-room a.number a.second (omega arith) (omega arith))
+    let a = c.args in
+    omega (arith, c.put_refused_at-end.ensures.end, refused-room a.number a.second (omega arith) (omega arith))
 
-returns : tie.Need-returns
+returns : tie.Need-returns-then-number-ne0
 unfolding call_line call_text
 returns c =
-    let r = c.before.before.before.before.before.before in
-    let b = r.before.before in
-    let a = b.before.before.args in (
-      rw (ne_eqb a.number 0 b.if1.true) (then r.put-refused-at.ensures c.before.before.put.ensures),
-      omega (arith, c.before.before.put.ensures.end, r.put-refused-at.ensures.end, refused-room a.number a.second (omega arith) (omega arith)),
+    let a = c.args in (
+      rw (ne_eqb a.number 0 c.if-number-ne0.true) (then c.put_refused_at-end.ensures c.put.ensures),
+      omega (arith, c.put.ensures.end, c.put_refused_at-end.ensures.end, refused-room a.number a.second (omega arith) (omega arith)),
     )
 
 -- the subpath that is made is that of the words
-made : (c : tie.After-closed-of) →
-    let a = c.before.before.before.before.args in
-    ◌≡◌ {A = Sub} (record { first = a.first; n = c.before.count_of.result; closed = c.Closed-of.result }) (sub_from a.first a.word)
+made : (c : tie.After-closed_of) →
+    let a = c.args in
+    ◌≡◌ {A = Sub} (record { first = a.first; n = c.count_of.result; closed = c.closed_of.result }) (sub_from a.first a.word)
 unfolding sub_from
-made c = rw (c.Closed-of.ensures, c.before.count_of.ensures)
+made c = rw (c.closed_of.ensures, c.count_of.ensures)
 
 -- an accepted call's subpath, and what was put of it
-sound : (c : tie.Else1) → let a = c.before.before.args in Sound (sub_from a.first a.word) (window_of a.which a.index)
-sound c = c.before.before.requires.1 c.if1.false
+sound : (c : tie.Else-number-ne0) → let a = c.args in Sound (sub_from a.first a.word) (window_of a.which a.index)
+sound c = c.requires.1 c.if-number-ne0.false
 
-room : (c : tie.Else1) → let a = c.before.before.args in length (recut_text (recut_places (sub_from a.first a.word) (window_of a.which a.index))) ≤ 41
-room c = let a = c.before.before.args in recut-room (sub_from a.first a.word) (window_of a.which a.index) (sound c) (window-reach a.which a.index)
+room : (c : tie.Else-number-ne0) → let a = c.args in length (recut_text (recut_places (sub_from a.first a.word) (window_of a.which a.index))) ≤ 41
+room c = let a = c.args in recut-room (sub_from a.first a.word) (window_of a.which a.index) (sound c) (window-reach a.which a.index)
 
-recut : (c : tie.After-put-recut) →
-    let a = c.before.before.before.before.before.before.before.args in
-    Put a.out.now a.at (recut_text (recut_places (sub_from a.first a.word) (window_of a.which a.index))) c.put-recut.new.0 c.put-recut.result
-recut c = rw (made c.before.before.before, c.before.window-of.ensures) at c.put-recut.ensures
+recut : (c : tie.After-put_recut-end) →
+    let a = c.args in
+    Put a.out.now a.at (recut_text (recut_places (sub_from a.first a.word) (window_of a.which a.index))) c.put_recut-end.new.out c.put_recut-end.result
+recut c = rw (made c.before.before.before, c.window_of.ensures) at c.put_recut-end.ensures
 
-put-recut-requires : tie.Need-put-recut-requires
+put-recut-requires : tie.Need-put_recut-end-requires
 put-recut-requires c κs =
-    let m = c.before.before in
-    let a = m.before.before.before.before.args in
-    (rw (made m, c.window-of.ensures) (sound m.before.before), rw c.window-of.ensures (window-reach a.which a.index), omega arith)
+    let a = c.args in
+    (rw (made c.before.before, c.window_of.ensures) (sound c.before.before.before.before), rw c.window_of.ensures (window-reach a.which a.index), omega arith)
 
 put-requires-2 : tie.Need-put-requires-2
 put-requires-2 c κs =
-    let r = c.before.before.before in
-    omega (arith, (recut r).end, room r.before.before.before.before.before)
+    omega (arith, (recut c.before.before.before).end, room c.before.before.before.before.before.before.before.before)
 
-returns-2 : tie.Need-returns-2
+returns-2 : tie.Need-returns
 unfolding call_line call_text
 returns-2 c =
-    let r = c.before.before.before.before.before.before in
-    let e = r.before.before.before.before.before in
-    let a = e.before.before.args in (
-      rw (eq-eqb a.number 0 e.if1.false) (then (recut r) c.before.before.put2.ensures),
-      omega (arith, c.before.before.put2.ensures.end, (recut r).end, room e),
+    let a = c.args in (
+      rw (eq-eqb a.number 0 c.if-number-ne0.false) (then (recut c.before.before.before.before.before.before) c.put-2.ensures),
+      omega (arith, c.put-2.ensures.end, (recut c.before.before.before.before.before.before).end, room c.before.before.before.before.before.before.before.before.before.before.before),
     )
 
-pub put-call-spec : {M : Type 1} → statement M
-put-call-spec =
+pub put_call_spec : {M : Type 1} → statement M
+put_call_spec =
     tie.close
     (tie.spec
     (λ c κs. search rules)

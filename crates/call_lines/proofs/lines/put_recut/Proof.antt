@@ -7,7 +7,7 @@ use Rattle.call_lines.proofs.lines.put_recut.Tie as tie
 
 returns : tie.Need-returns
 unfolding recut_text
-returns c = then c.before.before.before.before.before.before.put-bytes.ensures c.before.before.put-places.ensures
+returns c = then c.put_bytes-to.ensures c.put_places.ensures
 
-pub put-recut-spec : {M : Type 1} → statement M
-put-recut-spec = tie.close (tie.spec (λ c. search rules) (λ c κs. search rules) (λ c κs. search rules) (λ c. search rules) returns)
+pub put_recut_spec : {M : Type 1} → statement M
+put_recut_spec = tie.close (tie.spec (λ c κs. search rules) (λ c κs. search rules) (λ c. search rules) returns)

@@ -7,21 +7,21 @@ use Rattle.call_list.proofs.Inputs.{many_unfit, short_unfit, few_fit}
 use Rattle.call_list.proofs.calls.list_fits.Statement.{statement}
 use Rattle.call_list.proofs.calls.list_fits.Tie as tie
 
-counted : (c : tie.After-word-at) → c.word_at_lem.result ≡ count_in c.before.before.before.args.bytes.now
+counted : (c : tie.After-word_at-m) → c.word_at-m.result ≡ count_in c.args.bytes.now
 unfolding count_in
-counted c = c.word_at_lem.ensures
+counted c = c.word_at-m.ensures
 
-returns : tie.Need-returns
-returns c = sym (short_unfit c.before.before.args.bytes.now (omega arith))
+returns : tie.Need-returns-then-bytes-lt4
+returns c = sym (short_unfit c.args.bytes.now (omega arith))
 
-returns-2 : tie.Need-returns-2
-returns-2 c = sym (many_unfit c.before.before.before.before.args.bytes.now (omega (arith, counted c.before)))
+returns-2 : tie.Need-returns-then-m-gt256
+returns-2 c = sym (many_unfit c.args.bytes.now (omega (arith, counted c.before)))
 
-returns-3 : tie.Need-returns-3
-returns-3 c = rw (counted c.before) (few_fit c.before.before.before.before.args.bytes.now (omega (arith, counted c.before)))
+returns-3 : tie.Need-returns
+returns-3 c = rw (counted c.before) (few_fit c.args.bytes.now (omega (arith, counted c.before)))
 
-pub list-fits-spec : {M : Type 1} → statement M
-list-fits-spec =
+pub list_fits_spec : {M : Type 1} → statement M
+list_fits_spec =
     tie.close
     (tie.spec
     returns

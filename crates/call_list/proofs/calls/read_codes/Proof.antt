@@ -10,28 +10,28 @@ use Rattle.call_list.specs.Input.{code_at}
 use Rattle.call_list.proofs.calls.read_codes.Statement.{statement}
 use Rattle.call_list.proofs.calls.read_codes.Tie as tie
 
-abbrev invariant-loop : tie.invariant-loop
+abbrev invariant-loop : tie.invariant-loop-k
 invariant-loop bytes m codes₀ k₀ k-end codes k =
     (k ≤ m * 3) × (k-end ≡ m * 3) × (length codes ≡ length codes₀) × ((j : ℕ) → j < k → get_or codes j 0 ≡ code_at bytes j) × ((j : ℕ) → k ≤ j → get_or codes j 0 ≡ get_or codes₀ j 0)
 
-abbrev decreases-loop : tie.decreases-loop
+abbrev decreases-loop : tie.decreases-loop-k
 decreases-loop bytes m codes₀ k₀ k-end codes k = m * 3 - k
 
-loop-again : tie.Need-loop-preserved invariant-loop decreases-loop
+loop-again : tie.Need-loop-k-preserved invariant-loop decreases-loop
 unfolding code_at
 loop-again c =
-    let l = c.before.before.loop in
-    let v = c.word_at_lem.result in
-    (omega arith, refl, simp length-set l.invariant.2, fill_more 0 l.codes l.k v _ (omega arith) l.invariant.3 c.word_at_lem.ensures, keep_more 0 l.codes l.k v c.before.before.before.before.before.args.codes.now l.invariant.4)
+    let l = c.loop-k in
+    let v = c.word_at.result in
+    (omega arith, refl, simp length-set l.invariant.2, fill_more 0 l.codes l.k v _ (omega arith) l.invariant.3 c.word_at.ensures, keep_more 0 l.codes l.k v c.args.codes.now l.invariant.4)
 
 returns : tie.Need-returns invariant-loop decreases-loop
 returns c =
-    let a = c.before.before.before.before.args in
-    let l = c.before.loop in
+    let a = c.args in
+    let l = c.loop-k in
     as_overwrite 0 l.codes a.codes.now (a.m * 3) _ l.invariant.2 (λ j h. l.invariant.3 j (omega arith)) (λ j h. l.invariant.4 j (omega arith))
 
-pub read-codes-spec : {M : Type 1} → statement M
-read-codes-spec =
+pub read_codes_spec : {M : Type 1} → statement M
+read_codes_spec =
     tie.close
     (tie.spec
     invariant-loop

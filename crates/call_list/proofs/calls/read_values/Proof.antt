@@ -13,28 +13,28 @@ use Rattle.call_list.specs.Input.{value_at}
 use Rattle.call_list.proofs.calls.read_values.Statement.{statement}
 use Rattle.call_list.proofs.calls.read_values.Tie as tie
 
-abbrev invariant-loop : tie.invariant-loop
+abbrev invariant-loop : tie.invariant-loop-k
 invariant-loop bytes m values₀ k₀ k-end values k =
     (k ≤ m * 6) × (k-end ≡ m * 6) × (length values ≡ length values₀) × ((j : ℕ) → j < k → entry values j ≡ value_at bytes j) × ((j : ℕ) → k ≤ j → entry values j ≡ entry values₀ j)
 
-abbrev decreases-loop : tie.decreases-loop
+abbrev decreases-loop : tie.decreases-loop-k
 decreases-loop bytes m values₀ k₀ k-end values k = m * 6 - k
 
-loop-again : tie.Need-loop-preserved invariant-loop decreases-loop
+loop-again : tie.Need-loop-k-preserved invariant-loop decreases-loop
 unfolding value_at
 loop-again c =
-    let l = c.before.before.before.loop in
-    let v = c.number-of.result in
-    (omega arith, refl, simp length-set l.invariant.2, fill_more nan l.values l.k v _ (omega arith) l.invariant.3 (c.number-of.ensures ∙ ap number_of c.before.word_at_lem.ensures), keep_more nan l.values l.k v c.before.before.before.before.before.before.args.values.now l.invariant.4)
+    let l = c.loop-k in
+    let v = c.number_of.result in
+    (omega arith, refl, simp length-set l.invariant.2, fill_more nan l.values l.k v _ (omega arith) l.invariant.3 (c.number_of.ensures ∙ ap number_of c.word_at.ensures), keep_more nan l.values l.k v c.args.values.now l.invariant.4)
 
 returns : tie.Need-returns invariant-loop decreases-loop
 returns c =
-    let a = c.before.before.before.before.args in
-    let l = c.before.loop in
+    let a = c.args in
+    let l = c.loop-k in
     as_overwrite nan l.values a.values.now (a.m * 6) _ l.invariant.2 (λ j h. l.invariant.3 j (omega arith)) (λ j h. l.invariant.4 j (omega arith))
 
-pub read-values-spec : {M : Type 1} → statement M
-read-values-spec =
+pub read_values_spec : {M : Type 1} → statement M
+read_values_spec =
     tie.close
     (tie.spec
     invariant-loop

@@ -9,20 +9,20 @@ use Rattle.call_list.specs.Number.{number_of}
 use Rattle.call_list.proofs.number.number_of.Statement.{statement}
 use Rattle.call_list.proofs.number.number_of.Tie as tie
 
-returns : tie.Need-returns
+returns : tie.Need-returns-then-word-lt2147483648
 unfolding number_of
-returns c = rw (lt-ltb c.before.before.args.word 2147483648 c.before.if1.true)
+returns c = rw (lt-ltb c.args.word 2147483648 c.if-word-lt2147483648.true)
 
-whole : tie.Need-int-to-float-result-2
+whole : tie.Need-int_to_float-result-2
 unfolding in_float
-whole c = le→leb (4294967296 - c.before.before.args.word) (2 ^ 53) (omega arith)
+whole c = le→leb (4294967296 - c.args.word) (2 ^ 53) (omega arith)
 
-returns-2 : tie.Need-returns-2
+returns-2 : tie.Need-returns
 unfolding number_of
-returns-2 c = rw (le-ltb c.before.before.args.word 2147483648 c.before.if1.false)
+returns-2 c = rw (le-ltb c.args.word 2147483648 c.if-word-lt2147483648.false)
 
-pub number-of-spec : {M : Type 1} → statement M
-number-of-spec =
+pub number_of_spec : {M : Type 1} → statement M
+number_of_spec =
     tie.close
     (tie.spec
     (λ c. search rules)

@@ -11,30 +11,30 @@ use Rattle.recutting.proofs.Passing.{found_places}
 use Rattle.recutting.proofs.plans.plan_recut.Statement.{statement}
 use Rattle.recutting.proofs.plans.plan_recut.Tie as tie
 
-first-bad-requires : tie.Need-first-bad-requires
+first-bad-requires : tie.Need-first_bad-bad-requires
 first-bad-requires c κs =
-    let a = c.before.before.before.before.before.before.before.before.before.before.before.before.before.before.args in
-    let p = c.before.before.before.before.before.before.before.before.before.before.before.before.before.before.requires in
-    let e = ap length c.before.before.before.before.before.before.recut.ensures.1.1.1.1.0 ∙ length-numbers _ _ _ _ _ in
+    let a = c.args in
+    let p = c.requires in
+    let e = ap length c.recut-count.ensures.1.1.1.1.0 ∙ length-numbers _ _ _ _ _ in
     ((p.0.1, p.0.0.inside, p.0.2, p.0.3), λ i l h. let k = index_in a.sub a.w a.s p.0.0 p.0.2 i l h in let z = p.0.0.short in omega arith)
 
-returns : tie.Need-returns
+returns : tie.Need-returns-in-At
 returns c =
-    let a = c.before.before.before.before.before.before.before.before.before.before.before.before.before.before.before.before.before.before.before.args in
-    let p = c.before.before.before.before.before.before.before.before.before.before.before.before.before.before.before.before.before.before.before.requires in
-    let r = c.before.before.before.before.before.before.before.before.before.before.before.recut.ensures.1.1.1.1 in
+    let a = c.args in
+    let p = c.requires in
+    let r = c.recut-count.ensures.1.1.1.1 in
     let n = c.refuse.ensures.0 in (
       λ z. absurd (omega arith),
       λ v f.
           let h = stretch_numbers a.sub a.w a.s p.0.0 p.0.2 v a.kind a.anchors.now a.radii.now f _ _ (let z = p.0.0.short in omega arith) r.0 in
-          inl (n, sym (found_places a.sub a.w v a.s.from _ h) ∙ sym c.before.before.before.before.first-bad.ensures ∙ c.before.before.bad.given.1 ∙ ap At (sym c.refuse.ensures.1)),
+          inl (n, sym (found_places a.sub a.w v a.s.from _ h) ∙ sym c.first_bad-bad.ensures ∙ c.in-At.is ∙ ap At (sym c.refuse.ensures.1)),
     )
 
-returns-2 : tie.Need-returns-2
+returns-2 : tie.Need-returns
 returns-2 c =
-    let a = c.before.before.before.before.before.before.before.before.before.before.before.before.before.before.before.before.before.args in
-    let p = c.before.before.before.before.before.before.before.before.before.before.before.before.before.before.before.before.before.requires in
-    let e = c.before.before.before.before.before.before.before.before.before.recut.ensures in
+    let a = c.args in
+    let p = c.requires in
+    let e = c.recut-count.ensures in
     let r = e.1.1.1.1 in (
       λ z. refl,
       λ v f.
@@ -42,7 +42,7 @@ returns-2 c =
           inr (
             refl,
             record {
-              none = sym (found_places a.sub a.w v a.s.from _ h) ∙ sym c.before.before.first-bad.ensures ∙ c.enum_told.given.1;
+              none = sym (found_places a.sub a.w v a.s.from _ h) ∙ sym c.first_bad-bad.ensures ∙ c.in_default.is;
               count = e.0 ∙ stretch_count a.sub a.w a.s p.0.0 p.0.2;
               inside = p.0.0.inside;
               few = λ i l n. let k = index_in a.sub a.w a.s p.0.0 p.0.2 i l n in let z = p.0.0.short in omega arith;
@@ -52,8 +52,8 @@ returns-2 c =
           ),
     )
 
-pub plan-recut-spec : {M : Type 1} → statement M
-plan-recut-spec =
+pub plan_recut_spec : {M : Type 1} → statement M
+plan_recut_spec =
     tie.close
     (tie.spec
     (λ c. search rules)

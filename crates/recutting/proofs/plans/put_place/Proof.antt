@@ -5,10 +5,10 @@ use Rattle.recutting.proofs.plans.put_place.Statement.{statement}
 use Rattle.recutting.proofs.plans.put_place.Tie as tie
 
 returns : tie.Need-returns
-returns c = rw (c.before.before.put-anchor2.ensures, c.before.before.before.anchor-at2.ensures, c.before.before.before.before.before.before.before.put-anchor.ensures, c.before.before.before.before.before.before.before.before.anchor-at.ensures)
+returns c = rw (c.put_anchor-2.ensures, c.anchor_at-2.ensures, c.put_anchor.ensures, c.anchor_at.ensures)
 
-pub put-place-spec : {M : Type 1} → statement M
-put-place-spec =
+pub put_place_spec : {M : Type 1} → statement M
+put_place_spec =
     tie.close
     (tie.spec
     (λ c. search rules)

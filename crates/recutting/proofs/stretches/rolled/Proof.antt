@@ -6,11 +6,11 @@ use Rattle.cut.proofs.Unrolled.{rolled_in, rolled-round}
 use Rattle.recutting.proofs.stretches.rolled.Statement.{statement}
 use Rattle.recutting.proofs.stretches.rolled.Tie as tie
 
-returns : tie.Need-returns
+returns : tie.Need-returns-then-from-i
 returns c = sym (rolled_in _ _ _ (omega arith))
 
-returns-2 : tie.Need-returns-2
+returns-2 : tie.Need-returns-else-from-i
 returns-2 c = sym (rolled-round _ _ _ (omega arith))
 
-pub rolled-spec : {M : Type 1} → statement M
-rolled-spec = tie.close (tie.spec (λ c. search rules) (λ c. search rules) (λ c. returns c) (λ c. returns-2 c))
+pub rolled_spec : {M : Type 1} → statement M
+rolled_spec = tie.close (tie.spec (λ c. search rules) (λ c. search rules) (λ c. returns c) (λ c. returns-2 c))

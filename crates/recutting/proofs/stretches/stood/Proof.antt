@@ -6,11 +6,11 @@ use Rattle.cut.proofs.Shifts.{old_low, old_high}
 use Rattle.recutting.proofs.stretches.stood.Statement.{statement}
 use Rattle.recutting.proofs.stretches.stood.Tie as tie
 
-returns : tie.Need-returns
+returns : tie.Need-returns-then-i-gap
 returns c = sym (old_low _ _ (omega arith))
 
-returns-2 : tie.Need-returns-2
+returns-2 : tie.Need-returns-else-i-gap
 returns-2 c = sym (old_high _ _ (omega arith))
 
-pub stood-spec : {M : Type 1} → statement M
-stood-spec = tie.close (tie.spec (λ c. search rules) returns returns-2)
+pub stood_spec : {M : Type 1} → statement M
+stood_spec = tie.close (tie.spec (λ c. search rules) returns returns-2)

@@ -15,7 +15,7 @@ use Rattle.cut.proofs.Unrolled.{index_back}
 use Rattle.recutting.proofs.stretches.stretch_of.Statement.{statement}
 use Rattle.recutting.proofs.stretches.stretch_of.Tie as tie
 
-returns : tie.Need-returns
+returns : tie.Need-returns-then-n-le15
 returns c = record { inside = omega arith; few = omega arith; short = omega arith; middle = omega arith; is = inl (record { starts = refl; size = refl; closed = refl; middle = refl }) }
 
 -- ---- closed: k steps back from i, round the end of n anchors
@@ -25,9 +25,9 @@ back-round n k i r e l h =
     let y = x.1 in
     (omega arith, ⊎_elim (λ (q : k + rolled n k i ≡ i). inl (omega arith)) (λ (q : k + rolled n k i ≡ i + n). inr (omega arith)) x.0.is)
 
-returns-2 : tie.Need-returns-2
+returns-2 : tie.Need-returns-then-closed
 returns-2 c =
-    let a = c.before.before.before.before.args in
+    let a = c.args in
     let x = back-round _ _ _ _ c.rolled.ensures (omega arith) (omega arith) in
     record {
       inside = x.0;
@@ -36,7 +36,7 @@ returns-2 c =
       middle = omega arith;
       is = inr (record {
         straight = refl;
-        within = λ o. absurd (not_both a.sub.closed o c.before.if2.true);
+        within = λ o. absurd (not_both a.sub.closed o c.if-closed.true);
         middle = x.1;
         mid_in = omega arith;
         low = inl (omega arith);
@@ -60,18 +60,18 @@ row k n i l there e =
     (λ (h : i + k < n). rw (lt-ltb (i + k) n h) (record { from = refl; past = omega arith; inside = omega arith; to = inl refl }))
     (order n (i + k)))
 
-here : (c : tie.After-span) → let a = c.before.before.before.before.args in Row (a.w.reach + 3) a.sub.n a.w.at c.span.result
-here c = let a = c.before.before.before.before.args in row (a.w.reach + 3) a.sub.n a.w.at c.before.before.before.before.requires.0 c.span.result c.span.ensures
+here : (c : tie.After-span-there) → let a = c.args in Row (a.w.reach + 3) a.sub.n a.w.at c.span-there.result
+here c = let a = c.args in row (a.w.reach + 3) a.sub.n a.w.at c.requires.0 c.span-there.result c.span-there.ensures
 
-returns-3 : tie.Need-returns-3
+returns-3 : tie.Need-returns
 returns-3 c =
-    let a = c.before.before.before.before.before.args in
-    let o : a.sub.closed ≡ false = c.before.before.if2.false in
+    let a = c.args in
+    let o : a.sub.closed ≡ false = c.if-closed.false in
     let r = here c.before in
     let f = r.from in
     let p = r.past in
     let n = r.inside in
-    let short : c.before.span.result.to ≤ a.w.at + (a.w.reach + 3) + 1 = ⊎_elim (λ h. omega arith) (λ h. let z = h.1 in omega arith) r.to in
+    let short : c.span-there.result.to ≤ a.w.at + (a.w.reach + 3) + 1 = ⊎_elim (λ h. omega arith) (λ h. let z = h.1 in omega arith) r.to in
     record {
       inside = omega arith;
       few = omega arith;
@@ -87,8 +87,8 @@ returns-3 c =
       });
     }
 
-pub stretch-of-spec : {M : Type 1} → statement M
-stretch-of-spec =
+pub stretch_of_spec : {M : Type 1} → statement M
+stretch_of_spec =
     tie.close
     (tie.spec
     (λ c. search rules)

@@ -8,22 +8,22 @@ use Rattle.replay.proofs.Dispatch.{call_lists_lem, call-small, call-words}
 use Rattle.replay.proofs.running.run_call.Statement.{statement}
 use Rattle.replay.proofs.running.run_call.Tie as tie
 
-put-answer-requires : tie.Need-put-answer-requires
+put-answer-requires : tie.Need-put_answer-requires
 put-answer-requires c κs =
-    let a = c.before.before.before.before.before.before.before.before.before.before.before.before.before.before.before.before.before.before.before.before.before.before.before.before.before.before.before.before.before.before.before.before.args in
-    let o = c.before.before.before.before.before.before.before.before.before.before.before.before.run-one in
-    (c.before.before.before.before.before.before.before.before.before.before.before.before.before.before.before.before.before.before.before.before.before.before.before.before.before.before.before.before.before.before.before.before.requires.2, call-small a.codes.now a.values.now a.j _ _ _ c.before.before.before.before.before.before.before.before.before.before.before.before.before.before.before.before.before.before.before.before.before.index.ensures c.before.before.before.before.before.before.before.before.before.before.before.before.before.before.before.before.before.before.before.index2.ensures c.before.before.before.before.before.before.before.before.before.before.before.before.before.before.before.before.before.before.anchor-at.ensures (lent a.shapes.now a.anchors.now a.radii.now a.numbers.now a.flags.now) a.kind _ _ o.ensures)
+    let a = c.args in
+    let o = c.run_one-edited in
+    (c.requires.2, call-small a.codes.now a.values.now a.j _ _ _ c.index-s.ensures c.index-i.ensures c.anchor_at-given.ensures (lent a.shapes.now a.anchors.now a.radii.now a.numbers.now a.flags.now) a.kind _ _ o.ensures)
 
 returns : tie.Need-returns
 returns c =
-    let a = c.before.before.before.before.before.before.before.before.before.before.before.before.before.before.before.before.before.before.before.before.before.before.before.before.before.before.before.before.before.before.before.before.before.before.before.args in
-    let o = c.before.before.before.before.before.before.before.before.before.before.before.before.before.before.before.run-one in (
-      call_lists_lem a.codes.now a.values.now a.j _ _ _ c.before.before.before.before.before.before.before.before.before.before.before.before.before.before.before.before.before.before.before.before.before.before.before.before.index.ensures c.before.before.before.before.before.before.before.before.before.before.before.before.before.before.before.before.before.before.before.before.before.before.index2.ensures c.before.before.before.before.before.before.before.before.before.before.before.before.before.before.before.before.before.before.before.before.before.anchor-at.ensures (lent a.shapes.now a.anchors.now a.radii.now a.numbers.now a.flags.now) a.kind _ _ o.ensures,
-      c.before.before.put-answer.ensures ∙ ap (sets a.answers.now (a.j * 5)) (call-words a.codes.now a.values.now a.j _ _ _ c.before.before.before.before.before.before.before.before.before.before.before.before.before.before.before.before.before.before.before.before.before.before.before.before.index.ensures c.before.before.before.before.before.before.before.before.before.before.before.before.before.before.before.before.before.before.before.before.before.before.index2.ensures c.before.before.before.before.before.before.before.before.before.before.before.before.before.before.before.before.before.before.before.before.before.anchor-at.ensures (lent a.shapes.now a.anchors.now a.radii.now a.numbers.now a.flags.now) a.kind _ _ o.ensures),
+    let a = c.args in
+    let o = c.run_one-edited in (
+      call_lists_lem a.codes.now a.values.now a.j _ _ _ c.index-s.ensures c.index-i.ensures c.anchor_at-given.ensures (lent a.shapes.now a.anchors.now a.radii.now a.numbers.now a.flags.now) a.kind _ _ o.ensures,
+      c.put_answer.ensures ∙ ap (sets a.answers.now (a.j * 5)) (call-words a.codes.now a.values.now a.j _ _ _ c.index-s.ensures c.index-i.ensures c.anchor_at-given.ensures (lent a.shapes.now a.anchors.now a.radii.now a.numbers.now a.flags.now) a.kind _ _ o.ensures),
     )
 
-pub run-call-spec : {M : Type 1} → statement M
-run-call-spec =
+pub run_call_spec : {M : Type 1} → statement M
+run_call_spec =
     tie.close
     (tie.spec
     (λ c. search rules)

@@ -5,26 +5,26 @@ use Rattle.replay.proofs.Dispatch.{ran_move, ran_radius, ran_split}
 use Rattle.replay.proofs.running.run_one.Statement.{statement}
 use Rattle.replay.proofs.running.run_one.Tie as tie
 
-returns : tie.Need-returns
+returns : tie.Need-returns-then-which-eq0
 returns c =
-    let a = c.before.before.before.before.before.before.before.before.before.before.before.before.before.before.before.before.before.before.args in
-    let r = c.before.before.before.before.before.before.move-anchor.ensures in
-    ran_move a.which a.at.subpath a.at.anchor a.given (lent a.shapes.now a.anchors.now a.radii.now a.numbers.now a.flags.now) a.kind _ c.before.before.before.before.before.before.before.before.before.before.before.before.if1.true _ r
+    let a = c.args in
+    let r = c.move_anchor.ensures in
+    ran_move a.which a.at.subpath a.at.anchor a.given (lent a.shapes.now a.anchors.now a.radii.now a.numbers.now a.flags.now) a.kind _ c.if-which-eq0.true _ r
 
-returns-2 : tie.Need-returns-2
+returns-2 : tie.Need-returns-then-which-eq1
 returns-2 c =
-    let a = c.before.before.before.before.before.before.before.before.before.before.before.before.before.before.before.before.before.before.before.args in
-    let r = c.before.before.before.before.before.before.set-radius.ensures in
-    ran_radius a.which a.at.subpath a.at.anchor a.given (lent a.shapes.now a.anchors.now a.radii.now a.numbers.now a.flags.now) a.kind _ c.before.before.before.before.before.before.before.before.before.before.before.before.if2.true _ r
+    let a = c.args in
+    let r = c.set_radius.ensures in
+    ran_radius a.which a.at.subpath a.at.anchor a.given (lent a.shapes.now a.anchors.now a.radii.now a.numbers.now a.flags.now) a.kind _ c.if-which-eq1.true _ r
 
-returns-3 : tie.Need-returns-3
+returns-3 : tie.Need-returns
 returns-3 c =
-    let a = c.before.before.before.before.before.before.before.before.before.before.before.before.before.before.before.before.before.before.before.before.before.before.before.args in
-    let r = c.before.before.before.before.before.before.before.before.before.before.split-segment.ensures in
-    ran_split a.which a.at.subpath a.at.anchor a.given (lent a.shapes.now a.anchors.now a.radii.now a.numbers.now a.flags.now) a.kind _ c.before.before.before.before.before.before.before.before.before.before.before.before.before.before.before.before.before.if1.false c.before.before.before.before.before.before.before.before.before.before.before.before.before.before.before.before.if2.false _ r
+    let a = c.args in
+    let r = c.split_segment.ensures in
+    ran_split a.which a.at.subpath a.at.anchor a.given (lent a.shapes.now a.anchors.now a.radii.now a.numbers.now a.flags.now) a.kind _ c.if-which-eq0.false c.if-which-eq1.false _ r
 
-pub run-one-spec : {M : Type 1} → statement M
-run-one-spec =
+pub run_one_spec : {M : Type 1} → statement M
+run_one_spec =
     tie.close
     (tie.spec
     (λ c κs. tt)

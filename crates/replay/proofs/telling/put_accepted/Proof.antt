@@ -11,23 +11,23 @@ use Rattle.path.proofs.Shapes.{total_in}
 use Rattle.replay.proofs.telling.put_accepted.Statement.{statement}
 use Rattle.replay.proofs.telling.put_accepted.Tie as tie
 
-first_fits : tie.Need-overflow-cast-put-words-3
+first_fits : tie.Need-overflow_cast-first
 first_fits c =
-    let a = c.before.before.before.before.before.args in
-    let there = c.before.before.before.before.before.requires.3 in
-    let few = c.before.before.before.before.before.requires.5 in
-    let e : c.before.total_of.result ≡ start a.shapes.now a.s = c.before.total_of.ensures in
+    let a = c.args in
+    let there = c.requires.3 in
+    let few = c.requires.5 in
+    let e : c.total_of-first.result ≡ start a.shapes.now a.s = c.total_of-first.ensures in
     let h = total_in a.shapes.now a.s there in
     record { fits = omega arith }
 
 returns : tie.Need-returns
 returns c =
-    let a = c.before.before.before.before.before.before.before.before.before.args in
-    c.before.before.put-words.ensures
-    ∙ ap (λ x. sets a.answers.now (a.j * 5) (0 ∷ a.recut ∷ a.n ∷ x ∷ word_at a.shapes.now a.s ∷ [])) c.before.before.before.before.before.total_of.ensures
+    let a = c.args in
+    c.put_words.ensures
+    ∙ ap (λ x. sets a.answers.now (a.j * 5) (0 ∷ a.recut ∷ a.n ∷ x ∷ word_at a.shapes.now a.s ∷ [])) c.total_of-first.ensures
 
-pub put-accepted-spec : {M : Type 1} → statement M
-put-accepted-spec =
+pub put_accepted_spec : {M : Type 1} → statement M
+put_accepted_spec =
     tie.close
     (tie.spec
     (λ c. simp length-take (omega arith))

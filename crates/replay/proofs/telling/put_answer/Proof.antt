@@ -8,30 +8,30 @@ use Rattle.replay.proofs.Bounds.{refused-fits, refused-words, accepted_fits, acc
 use Rattle.replay.proofs.telling.put_answer.Statement.{statement}
 use Rattle.replay.proofs.telling.put_answer.Tie as tie
 
-place-fits : tie.Need-overflow-cast-put-words
+place-fits : tie.Need-overflow_cast-place
 place-fits c =
-    let a = c.before.before.before.before.before.before.args in
-    let h = refused-fits a.edited a.shapes.now a.s _ _ c.before.before.edited.given.1 c.before.before.before.before.before.before.requires.1 in
+    let a = c.args in
+    let h = refused-fits a.edited a.shapes.now a.s _ _ c.in-Refused.is c.requires.1 in
     record { fits = omega arith }
 
-put-accepted-requires : tie.Need-put-accepted-requires
+put-accepted-requires : tie.Need-put_accepted-requires
 put-accepted-requires c κs =
-    let a = c.before.before.before.before.before.before.args in
-    let h = accepted_fits a.edited a.shapes.now a.s _ _ c.before.before.edited2.given.1 c.before.before.before.before.before.before.requires.1 in
-    (c.before.before.before.before.before.before.requires.0, h.0, h.1, h.2, h.3, h.4)
+    let a = c.args in
+    let h = accepted_fits a.edited a.shapes.now a.s _ _ c.in-Accepted.is c.requires.1 in
+    (c.requires.0, h.0, h.1, h.2, h.3, h.4)
 
-returns : tie.Need-returns
+returns : tie.Need-returns-in-Refused
 returns c =
-    let a = c.before.before.before.before.before.before.before.before.before.args in
-    c.before.before.put-words.ensures ∙ ap (sets a.answers.now (a.j * 5)) (refused-words a.edited a.shapes.now a.s _ _ c.before.before.before.before.before.edited.given.1)
+    let a = c.args in
+    c.put_words.ensures ∙ ap (sets a.answers.now (a.j * 5)) (refused-words a.edited a.shapes.now a.s _ _ c.in-Refused.is)
 
-returns-2 : tie.Need-returns-2
+returns-2 : tie.Need-returns-in-Accepted
 returns-2 c =
-    let a = c.before.before.before.before.before.before.before.before.before.args in
-    c.before.before.put-accepted.ensures ∙ ap (sets a.answers.now (a.j * 5)) (accepted_words a.edited a.shapes.now a.s _ _ c.before.before.before.before.before.edited2.given.1)
+    let a = c.args in
+    c.put_accepted.ensures ∙ ap (sets a.answers.now (a.j * 5)) (accepted_words a.edited a.shapes.now a.s _ _ c.in-Accepted.is)
 
-pub put-answer-spec : {M : Type 1} → statement M
-put-answer-spec =
+pub put_answer_spec : {M : Type 1} → statement M
+put_answer_spec =
     tie.close
     (tie.spec
     (λ c. search rules)

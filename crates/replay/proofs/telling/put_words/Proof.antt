@@ -15,8 +15,8 @@ returns c =
     let e4 : q + 4 ≡ suc (suc (suc (suc q))) = omega arith in
     rw (e1, e2, e3, e4)
 
-pub put-words-spec : {M : Type 1} → statement M
-put-words-spec =
+pub put_words_spec : {M : Type 1} → statement M
+put_words_spec =
     tie.close
     (tie.spec
     (λ c. omega arith)

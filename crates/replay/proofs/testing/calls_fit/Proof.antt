@@ -19,23 +19,23 @@ room m k =
     (λ (h : k < m * 5). lt-leb m (k / 5) (omega arith) ∙ sym (lt-leb (m * 5) k h))
     (order (m * 5) k)
 
-returns : tie.Need-returns
+returns : tie.Need-returns-then-codes-ne0
 unfolding calls_fit
-returns c = let a = c.before.args in rw (ne_eqb (length a.codes.now % 3) 0 c.if1.true)
+returns c = let a = c.args in rw (ne_eqb (length a.codes.now % 3) 0 c.if-codes-ne0.true)
 
-returns-2 : tie.Need-returns-2
+returns-2 : tie.Need-returns-then-values-m
 unfolding calls_fit
 returns-2 c =
-    let a = c.before.before.args in
+    let a = c.args in
     let m = length a.codes.now / 3 in
     rw (eq-eqb (length a.codes.now % 3) 0 (omega arith), lt-leb (m * 6) (length a.values.now) (omega arith))
 
-returns-3 : tie.Need-returns-3
+returns-3 : tie.Need-returns
 unfolding calls_fit
 returns-3 c =
-    let a = c.before.before.args in
+    let a = c.args in
     let m = length a.codes.now / 3 in
     rw (eq-eqb (length a.codes.now % 3) 0 (omega arith), le-leb (m * 6) (length a.values.now) (omega arith)) (room m (length a.answers.now))
 
-pub calls-fit-spec : {M : Type 1} → statement M
-calls-fit-spec = tie.close (tie.spec returns returns-2 returns-3)
+pub calls_fit_spec : {M : Type 1} → statement M
+calls_fit_spec = tie.close (tie.spec returns returns-2 returns-3)

@@ -13,31 +13,31 @@ use Rattle.replay.specs.Encoding.{call_count, calls_known}
 use Rattle.replay.proofs.testing.calls_known.Statement.{statement}
 use Rattle.replay.proofs.testing.calls_known.Tie as tie
 
-abbrev invariant-loop : tie.invariant-loop
+abbrev invariant-loop : tie.invariant-loop-j
 invariant-loop codes m j₀ j = (j ≤ m) × (m ≡ call_count codes) × ((i : ℕ) → i < j → leb (get_or codes (i * 3) 0) 2 ≡ true)
 
-abbrev decreases-loop : tie.decreases-loop
+abbrev decreases-loop : tie.decreases-loop-j
 decreases-loop codes m j₀ j = m - j
 
-loop-again : tie.Need-loop-preserved invariant-loop decreases-loop
+loop-again : tie.Need-loop-j-preserved invariant-loop decreases-loop
 loop-again c =
-    let l = c.before.before.before.loop in
-    (omega arith, refl, below_more _ _ l.invariant.2 (le-leb _ 2 c.if1.false))
+    let l = c.loop-j in
+    (omega arith, refl, below_more _ _ l.invariant.2 (le-leb _ 2 c.if-codes-j-gt2.false))
 
-returns : tie.Need-returns invariant-loop decreases-loop
+returns : tie.Need-returns-then-codes-j-gt2 invariant-loop decreases-loop
 unfolding calls_known
 returns c =
-    let l = c.before.before.before.loop in
-    sym (all_false _ _ l.j (omega arith) (lt-leb _ 2 c.if1.true))
+    let l = c.loop-j in
+    sym (all_false _ _ l.j (omega arith) (lt-leb _ 2 c.if-codes-j-gt2.true))
 
-returns-2 : tie.Need-returns-2 invariant-loop decreases-loop
+returns-2 : tie.Need-returns invariant-loop decreases-loop
 unfolding calls_known
 returns-2 c =
-    let l = c.before.loop in
+    let l = c.loop-j in
     sym (all_true _ _ (λ i h. l.invariant.2 i (omega arith)))
 
-pub calls-known-spec : {M : Type 1} → statement M
-calls-known-spec =
+pub calls_known_spec : {M : Type 1} → statement M
+calls_known_spec =
     tie.close
     (tie.spec
     invariant-loop

@@ -20,49 +20,49 @@ same-words : {x y z w : ℕ} → outline.Accepted x y ≡ outline.Accepted z w �
 same-words e = cc
 
 -- ---- at the call
-module _ (c : tie.After-assemble) where
+module _ (c : tie.After-assemble-made) where
   abbrev s : tie.Start
   s = c.before.before.before.before.before.before.before
 
   gathers : GathersIn s.args.shapes.now s.args.numbers.now s.args.flags.now (replicate 32 0) (replicate 6144 0f)
-  gathers = s.pre.0.gathers (replicate 32 0) (replicate 6144 0f) (le_refl 32) (le_refl 6144)
+  gathers = s.requires.0.gathers (replicate 32 0) (replicate 6144 0f) (le_refl 32) (le_refl 6144)
 
-  taken : {x y : ℕ} → c.assemble.result ≡ outline.Accepted x y → x ≡ length s.args.shapes.now
-  taken e = same-words (sym e ∙ c.assemble.ensures.0 ∙ gathered_answer _ _ _ _ _ gathers)
+  taken : {x y : ℕ} → c.assemble-made.result ≡ outline.Accepted x y → x ≡ length s.args.shapes.now
+  taken e = same-words (sym e ∙ c.assemble-made.ensures.0 ∙ gathered_answer _ _ _ _ _ gathers)
 
-  not-refused : {x y : ℕ} → c.assemble.result ≡ outline.Refused x y → ⊥
-  not-refused e = differ (sym e ∙ c.assemble.ensures.0 ∙ gathered_answer _ _ _ _ _ gathers)
+  not-refused : {x y : ℕ} → c.assemble-made.result ≡ outline.Refused x y → ⊥
+  not-refused e = differ (sym e ∙ c.assemble-made.ensures.0 ∙ gathered_answer _ _ _ _ _ gathers)
 
-array-share-prefix-words : tie.Need-array-share-prefix-words
+array-share-prefix-words : tie.Need-slice_bounds-words-end
 array-share-prefix-words c =
-    let a = c.before.before.before.before.before in
-    let e = taken a c.before.made2.given.1 in
+    let a = c.before.before.before in
+    let e = taken a c.in-Accepted.is in
     omega (arith, (s a).requires.0.words)
 
-slice-aggregate-put-path : tie.Need-slice-aggregate-put-path
+slice-aggregate-put-path : tie.Need-slice_bounds-put_path-end
 slice-aggregate-put-path c =
-    let a = c.before.before.before.before.before.before in
-    let e = taken a c.before.before.made2.given.1 in
+    let a = c.before.before.before.before in
+    let e = taken a c.in-Accepted.is in
     sym (length-take-le _ _ (omega (arith, (s a).requires.0.words)))
 
-put-path-requires : tie.Need-put-path-requires
+put-path-requires : tie.Need-put_path-requires
 put-path-requires c κs =
-    let a = c.before.before.before.before.before.before.before.before in
-    let e = taken a c.before.before.before.before.made2.given.1 in
-    (rw (e, a.assemble.ensures.1.0, a.assemble.ensures.1.1) (gathers a).opens, (s a).requires.1)
+    let a = c.before.before.before.before.before.before in
+    let e = taken a c.in-Accepted.is in
+    (simp (e, c.assemble-made.ensures.1.0, c.assemble-made.ensures.1.1) (gathers a).opens, (s a).requires.1)
 
-returns : tie.Need-returns
-returns c = absurd (not-refused c.before.before.before.before.before.before.before.before.before c.before.before.before.before.before.made.given.1)
+returns : tie.Need-returns-in-Refused
+returns c = absurd (not-refused c.before.before.before.before.before.before.before c.in-Refused.is)
 
-returns-2 : tie.Need-returns-2
+returns-2 : tie.Need-returns-in-Accepted
 returns-2 c =
-    let a = c.before.before.before.before.before.before.before.before.before.before.before in
-    let e = taken a c.before.before.before.before.before.before.before.made2.given.1 in
-    let q = rw (e, a.assemble.ensures.1.0, a.assemble.ensures.1.1) at c.before.before.put-path.ensures in
+    let a = c.before.before.before.before.before.before.before.before.before in
+    let e = taken a c.in-Accepted.is in
+    let q = simp (e, c.assemble-made.ensures.1.0, c.assemble-made.ensures.1.1) at c.put_path.ensures in
     rw (← (gathers a).text) q
 
-pub put-outline-spec : {M : Type 1} → statement M
-put-outline-spec =
+pub put_outline_spec : {M : Type 1} → statement M
+put_outline_spec =
     tie.close
     (tie.spec
     (λ c. search rules)

@@ -8,9 +8,9 @@ use Rattle.reporting.proofs.reports.refuse.Tie as tie
 
 returns : tie.Need-returns
 returns c =
-    let p = c.before.before.Put-refused.ensures in
-    let a = c.before.before.before.before.before.args in
+    let p = c.put_refused-text.ensures in
+    let a = c.args in
     (refl, (p, omega (arith, p.end, refused-room a.number a.place (omega arith) (omega arith))))
 
-pub refuse-spec : {M : Type 1} → statement M
-refuse-spec = tie.close (tie.spec (λ c κs. tt) (λ c. search rules) returns)
+pub refuse_spec : {M : Type 1} → statement M
+refuse_spec = tie.close (tie.spec (λ c κs. tt) (λ c. search rules) returns)

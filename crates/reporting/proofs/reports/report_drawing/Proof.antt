@@ -25,7 +25,7 @@ use Rattle.reporting.proofs.Replays.{calls_fit_lem, refused-report, Runs, done_r
 use Rattle.reporting.proofs.reports.report_drawing.Statement.{statement}
 use Rattle.reporting.proofs.reports.report_drawing.Tie as tie
 
-module _ (c : tie.After-replay) where
+module _ (c : tie.After-replay-done) where
   abbrev s : tie.Start
   s = c.before.before.before.before.before.before.before.before.before.before.before.before.before.before
 
@@ -34,7 +34,7 @@ module _ (c : tie.After-replay) where
   l = lent s.args.shapes.now s.args.anchors.now s.args.radii.now (replicate 6144 0f) (replicate 512 0)
 
   d : Drawn s.args.shapes.now s.args.anchors.now s.args.radii.now s.args.kind
-  d = s.pre.0.0
+  d = s.requires.0.0
 
   fit : cache_fits s.args.shapes.now (replicate 6144 0f) (replicate 512 0) ≡ true
   fit =
@@ -42,63 +42,63 @@ module _ (c : tie.After-replay) where
       fits-is s.args.shapes.now _ _ (record { words = d.opens.words; few = d.opens.few; long = e; flag_each = d.opens.few })
 
   calls : calls_fit s.args.codes.now s.args.values.now (replicate 1280 0) ≡ true
-  calls = calls_fit_lem s.args.codes.now s.args.values.now (replicate 1280 0) s.pre.1.0.0 s.pre.1.0.2 (omega (arith, s.pre.1.0.1))
+  calls = calls_fit_lem s.args.codes.now s.args.values.now (replicate 1280 0) s.requires.1.0.0 s.requires.1.0.2 (omega (arith, s.requires.1.0.1))
 
   wide : lengths_of l ≡ roomy
   unfolding lengths_of
-  wide = λ t. record { anchors = s.pre.0.1 t; radii = s.pre.0.2 t; numbers = 6144; flags = 512 }
+  wide = λ t. record { anchors = s.requires.0.1 t; radii = s.requires.0.2 t; numbers = 6144; flags = 512 }
 
 -- ---- done
-module _ (c : tie.After-done2) where
-  abbrev r : tie.After-replay
-  r = c.before.before.before.before.before.before.before.before.before.before.before
+module _ (c : tie.In-Done) where
+  abbrev r : tie.After-replay-done
+  r = c.before.before.before.before.before.before.before.before.before.before
 
-  runs : Runs (l r) (s r).args.kind (s r).args.codes.now (s r).args.values.now (replicate 1280 0) (d r) (fit r) (calls r) c.done2.given.0.0
-  runs = done_runs _ _ _ _ _ (d r) (fit r) (calls r) _ (sym r.replay.ensures.0 ∙ c.done2.given.1)
+  runs : Runs (l r) (s r).args.kind (s r).args.codes.now (s r).args.values.now (replicate 1280 0) (d r) (fit r) (calls r) c.in-Done.m
+  runs = done_runs _ _ _ _ _ (d r) (fit r) (calls r) _ (sym r.replay-done.ensures.0 ∙ c.in-Done.is)
 
   -- the lists that the calls left
-  left : lent r.replay.last.0 r.replay.last.1.0 r.replay.last.1.1.0 r.replay.last.1.1.1.1.0 r.replay.last.1.1.1.1.1.0
+  left : lent r.replay-done.new.shapes r.replay-done.new.anchors r.replay-done.new.radii r.replay-done.new.numbers r.replay-done.new.flags
       ≡ replay_lists (l r) (s r).args.kind (s r).args.codes.now (s r).args.values.now (replicate 1280 0)
-  left = r.replay.ensures.1.0
+  left = r.replay-done.ensures.1.0
 
-put-calls-requires : tie.Need-put-calls-requires
+put-calls-requires : tie.Need-put_calls-to-requires
 put-calls-requires c κs =
-    let q = c.before.before.before in
+    let q = c.before.before in
     let n = (runs q).count in
-    let e = (r q).replay.ensures.1.1.0 in (
-      omega (arith, (s (r q)).pre.1.0.1),
+    let e = (r q).replay-done.ensures.1.1.0 in (
+      omega (arith, (s (r q)).requires.1.0.1),
       omega arith,
-      omega (arith, (s (r q)).pre.1.0.1),
+      omega (arith, (s (r q)).requires.1.0.1),
       rw e (runs_sound _ _ _ _ _ (d (r q)) (fit (r q)) (calls (r q)) _ (runs q)),
     )
 
-put-outline-requires : tie.Need-put-outline-requires
+put-outline-requires : tie.Need-put_outline-text-requires
 put-outline-requires c κs =
-    let q = c.before.before.before.before.before.before.before.before.before.before in
-    (subst (λ (x : Lent). Gathers x.shapes x.numbers x.flags) (sym (left q)) (runs_gather _ _ _ _ _ (d (r q)) (fit (r q)) (calls (r q)) _ (runs q)), (s (r q)).pre.1.1)
+    let q = c.before.before.before.before.before.before.before.before in
+    (subst (λ (x : Lent). Gathers x.shapes x.numbers x.flags) (sym (left q)) (runs_gather _ _ _ _ _ (d (r q)) (fit (r q)) (calls (r q)) _ (runs q)), (s (r q)).requires.1.1)
 
-returns : tie.Need-returns
+returns : tie.Need-returns-in-Refused
 unfolding drawn
 returns c =
-    let a = c.before.before.before.before.before.before.before.before.before.before.before.before.before.before.before.before in
-    let f = c.before.before.refuse.ensures in
-    let e = refused-report _ _ _ _ _ (d a) (fit a) (calls a) _ _ (sym a.replay.ensures.0 ∙ c.before.before.before.before.before.done.given.1) in
+    let a = c.before.before.before.before.before.before.before.before.before.before.before.before.before.before in
+    let f = c.refuse.ensures in
+    let e = refused-report _ _ _ _ _ (d a) (fit a) (calls a) _ _ (sym c.replay-done.ensures.0 ∙ c.in-Refused.is) in
     (rw (← e, f.0) (nothing _ 0), (rw (← e) f.1.0, (omega (arith, f.0), f.1.1)))
 
-returns-2 : tie.Need-returns-2
+returns-2 : tie.Need-returns-in-Done
 unfolding drawn
 returns-2 c =
-    let q = c.before.before.before.before.before.before.before.before.before.before.before.before.before in
+    let q = c.before.before.before.before.before.before.before.before.before.before.before in
     let e = runs_report _ _ _ _ _ (d (r q)) (fit (r q)) (calls (r q)) _ (runs q) (wide (r q)) in
-    let p = rw (r q).replay.ensures.1.1.0 at c.before.before.before.before.before.before.before.before.before.put-calls.ensures.0 in
-    let o = c.before.before.put-outline in
-    let t = subst (λ (x : Lent). Put (s (r q)).args.out.now 0 (fitted (held_text x.shapes x.numbers x.flags)) o.new.1.1.1.0 o.result) (left q) o.ensures in
+    let p = rw (r q).replay-done.ensures.1.1.0 at c.put_calls-to.ensures.0 in
+    let o = c.put_outline-text in
+    let t = subst (λ (x : Lent). Put (s (r q)).args.out.now 0 (fitted (held_text x.shapes x.numbers x.flags)) o.new.out o.result) (left q) o.ensures in
     let n = (runs q).count in
-    let y = c.before.before.before.before.before.before.before.before.before.put-calls.ensures.1 in
-    (rw e p, (rw e t, (omega (arith, y, (s (r q)).pre.1.0.1), omega (arith, o.ensures.end, fitted-room (held_text (r q).replay.new.0 (r q).replay.new.1.1.1.1.0 (r q).replay.new.1.1.1.1.1.0)))))
+    let y = c.put_calls-to.ensures.1 in
+    (rw e p, (rw e t, (omega (arith, y, (s (r q)).requires.1.0.1), omega (arith, o.ensures.end, fitted-room (held_text (r q).replay-done.new.shapes (r q).replay-done.new.numbers (r q).replay-done.new.flags)))))
 
-pub report-drawing-spec : {M : Type 1} → statement M
-report-drawing-spec =
+pub report_drawing_spec : {M : Type 1} → statement M
+report_drawing_spec =
     tie.close
     (tie.spec
     (λ c. search rules)
