@@ -1,6 +1,8 @@
 // The C interface: one thin exported function for each call (include/outline.h says what a caller owes). Each returns the refusal's
 // number, 0 where the call is accepted, and writes place, count, subpaths and recut to `answer`; what is lent for a result is written
 // only where the call is accepted.
+#![tactic(auto)]
+
 ghost use Rattle.std.specs.Prelude.{◌≡◌};
 ghost use Rattle.root.specs.Root.{root_of};
 ghost use Rattle.geom.specs.Point.{point};

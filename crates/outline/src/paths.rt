@@ -1,7 +1,7 @@
 // The exported calls on paths.
 ghost use Rattle.std.specs.Prelude.{◌≡◌};
 ghost use Rattle.cut_corners.specs.Calls.{cut_answer, cut_shapes_left, cut_anchors_left};
-ghost use Rattle.svg_calls.specs.Call.{to_svg_danswer, to_svg_dleft, write_num_answer, write_num_left};
+ghost use Rattle.svg_calls.specs.Call.{to_svg_d_answer, to_svg_d_left, write_num_answer, write_num_left};
 ghost use Rattle.answers.specs.Answers.{text_code, text_words, outline_code, outline_words};
 
 use answers::{outline_told, text_told};
@@ -32,9 +32,9 @@ pub extern "C" fn outline_to_svg_d(
     out: &mut [u8],
     answer: &mut [u64; 4],
 ) -> u32
-    ensures code { result ≡ text_code (to_svg_danswer shapes.now anchors.now out.old) }
-    ensures answer { answer.new ≡ text_words (to_svg_danswer shapes.now anchors.now out.old) }
-    ensures out { out.new ≡ to_svg_dleft shapes.now anchors.now out.old }
+    ensures code { result ≡ text_code (to_svg_d_answer shapes.now anchors.now out.old) }
+    ensures answer { answer.new ≡ text_words (to_svg_d_answer shapes.now anchors.now out.old) }
+    ensures out { out.new ≡ to_svg_d_left shapes.now anchors.now out.old }
 {
     let a = svg_calls::to_svg_d(shapes, anchors, out);
     text_told(a, answer)

@@ -5,12 +5,10 @@ use Rattle.outline.proofs.curve.Tie as tie
 
 returns : tie.Need-returns
 returns c =
-    let d = c.before.before.before in
-    let e = d.before.before.before in
-    rw (c.new4.ensures, d.new3.ensures, e.new2.ensures, e.before.before.before.new.ensures)
+    rw (c.new-4.ensures, c.new-3.ensures, c.new-2.ensures, c.new.ensures)
 
-pub curve-spec : {M : Type 1} → statement M
-curve-spec =
+pub curve_spec : {M : Type 1} → statement M
+curve_spec =
     tie.close
     (tie.spec
     (λ c. search rules)

@@ -5,22 +5,18 @@ use Rattle.answers.specs.Answers.{point_code, point_words, point_left}
 use Rattle.outline.proofs.outline_cubic_at.Statement.{statement}
 use Rattle.outline.proofs.outline_cubic_at.Tie as tie
 
-returns : tie.Need-returns
+returns : tie.Need-returns-in-Refused
 unfolding point_code point_words point_left
 returns c =
-    let m = c.before.before.before in
-    let l = m.before.before in
-    rw (← l.before.curve.ensures, ← l.cubic-at.ensures, m.a.given.1) (refl, (refl, c.tell.ensures))
+    rw (← c.curve.ensures, ← c.cubic_at-a.ensures, c.in-Refused.is) (refl, (refl, c.tell.ensures))
 
-returns-2 : tie.Need-returns-2
+returns-2 : tie.Need-returns-in-Accepted
 unfolding point_code point_words point_left
 returns-2 c =
-    let m = c.before.before.before.before in
-    let l = m.before.before in
-    rw (← l.before.curve.ensures, ← l.cubic-at.ensures, m.a2.given.1) (refl, (refl, c.tell2.ensures))
+    rw (← c.curve.ensures, ← c.cubic_at-a.ensures, c.in-Accepted.is) (refl, (refl, c.tell-in-Accepted.ensures))
 
-pub outline-cubic-at-spec : {M : Type 1} → statement M
-outline-cubic-at-spec =
+pub outline_cubic_at_spec : {M : Type 1} → statement M
+outline_cubic_at_spec =
     tie.close
     (tie.spec
     (λ c κs. tt)

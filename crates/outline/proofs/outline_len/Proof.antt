@@ -5,22 +5,18 @@ use Rattle.answers.specs.Answers.{number_code, number_words, number_left}
 use Rattle.outline.proofs.outline_len.Statement.{statement}
 use Rattle.outline.proofs.outline_len.Tie as tie
 
-returns : tie.Need-returns
+returns : tie.Need-returns-in-Refused
 unfolding number_code number_words number_left
 returns c =
-    let m = c.before.before.before in
-    let l = m.before.before in
-    rw (← l.before.new.ensures, ← l.len.ensures, m.a.given.1) (refl, (refl, c.tell.ensures))
+    rw (← c.new.ensures, ← c.len-a.ensures, c.in-Refused.is) (refl, (refl, c.tell.ensures))
 
-returns-2 : tie.Need-returns-2
+returns-2 : tie.Need-returns-in-Accepted
 unfolding number_code number_words number_left
 returns-2 c =
-    let m = c.before.before.before in
-    let l = m.before.before in
-    rw (← l.before.new.ensures, ← l.len.ensures, m.a2.given.1) (refl, (refl, c.tell2.ensures))
+    rw (← c.new.ensures, ← c.len-a.ensures, c.in-Accepted.is) (refl, (refl, c.tell-in-Accepted.ensures))
 
-pub outline-len-spec : {M : Type 1} → statement M
-outline-len-spec =
+pub outline_len_spec : {M : Type 1} → statement M
+outline_len_spec =
     tie.close
     (tie.spec
     (λ c κs. tt)

@@ -7,12 +7,11 @@ use Rattle.outline.proofs.outline_sample.Tie as tie
 
 returns : tie.Need-returns
 returns c =
-    let s = c.before.before.before.before in
-    rw (← s.before.before.curve.ensures)
-    (c.filled-told.ensures.0 ∙ ap filled_code s.sample.ensures.0, (c.filled-told.ensures.1 ∙ ap filled_words s.sample.ensures.0, s.sample.ensures.1))
+    rw (← c.curve.ensures)
+    (c.filled_told.ensures.0 ∙ ap filled_code c.sample-a.ensures.0, (c.filled_told.ensures.1 ∙ ap filled_words c.sample-a.ensures.0, c.sample-a.ensures.1))
 
-pub outline-sample-spec : {M : Type 1} → statement M
-outline-sample-spec =
+pub outline_sample_spec : {M : Type 1} → statement M
+outline_sample_spec =
     tie.close
     (tie.spec
     (λ c κs. tt)

@@ -7,13 +7,12 @@ use Rattle.outline.proofs.outline_split_cubic.Tie as tie
 
 returns : tie.Need-returns
 returns c =
-    let s = c.before.before.before.before.before.before in
-    let e = s.split-cubic.ensures in
-    rw (← s.before.before.before.curve.ensures)
-    (c.filled-told.ensures.0 ∙ ap filled_code e.0, (c.filled-told.ensures.1 ∙ ap filled_words e.0, e.1))
+    let e = c.split_cubic-a.ensures in
+    rw (← c.curve.ensures)
+    (c.filled_told.ensures.0 ∙ ap filled_code e.0, (c.filled_told.ensures.1 ∙ ap filled_words e.0, e.1))
 
-pub outline-split-cubic-spec : {M : Type 1} → statement M
-outline-split-cubic-spec =
+pub outline_split_cubic_spec : {M : Type 1} → statement M
+outline_split_cubic_spec =
     tie.close
     (tie.spec
     (λ c κs. tt)

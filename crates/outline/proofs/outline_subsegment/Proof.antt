@@ -7,12 +7,11 @@ use Rattle.outline.proofs.outline_subsegment.Tie as tie
 
 returns : tie.Need-returns
 returns c =
-    let s = c.before.before.before.before in
-    rw (← s.before.before.curve.ensures)
-    (c.filled-told.ensures.0 ∙ ap filled_code s.subsegment.ensures.0, (c.filled-told.ensures.1 ∙ ap filled_words s.subsegment.ensures.0, s.subsegment.ensures.1))
+    rw (← c.curve.ensures)
+    (c.filled_told.ensures.0 ∙ ap filled_code c.subsegment-a.ensures.0, (c.filled_told.ensures.1 ∙ ap filled_words c.subsegment-a.ensures.0, c.subsegment-a.ensures.1))
 
-pub outline-subsegment-spec : {M : Type 1} → statement M
-outline-subsegment-spec =
+pub outline_subsegment_spec : {M : Type 1} → statement M
+outline_subsegment_spec =
     tie.close
     (tie.spec
     (λ c κs. tt)

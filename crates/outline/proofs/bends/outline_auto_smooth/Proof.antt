@@ -7,11 +7,10 @@ use Rattle.outline.proofs.bends.outline_auto_smooth.Tie as tie
 
 returns : tie.Need-returns
 returns c =
-    let s = c.before.before.before.before in
-    (c.outline-told.ensures.0 ∙ ap outline_code s.auto-smooth.ensures.0, (c.outline-told.ensures.1 ∙ ap outline_words s.auto-smooth.ensures.0, s.auto-smooth.ensures.1))
+    (c.outline_told.ensures.0 ∙ ap outline_code c.auto_smooth-a.ensures.0, (c.outline_told.ensures.1 ∙ ap outline_words c.auto_smooth-a.ensures.0, c.auto_smooth-a.ensures.1))
 
-pub outline-auto-smooth-spec : {M : Type 1} → statement M
-outline-auto-smooth-spec =
+pub outline_auto_smooth_spec : {M : Type 1} → statement M
+outline_auto_smooth_spec =
     tie.close
     (tie.spec
     (λ c κs. tt)

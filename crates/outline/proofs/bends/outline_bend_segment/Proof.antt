@@ -7,11 +7,10 @@ use Rattle.outline.proofs.bends.outline_bend_segment.Tie as tie
 
 returns : tie.Need-returns
 returns c =
-    let s = c.before.before.before.before in
-    (c.outline-told.ensures.0 ∙ ap outline_code s.bend-segment.ensures.0, (c.outline-told.ensures.1 ∙ ap outline_words s.bend-segment.ensures.0, s.bend-segment.ensures.1))
+    (c.outline_told.ensures.0 ∙ ap outline_code c.bend_segment-b.ensures.0, (c.outline_told.ensures.1 ∙ ap outline_words c.bend_segment-b.ensures.0, c.bend_segment-b.ensures.1))
 
-pub outline-bend-segment-spec : {M : Type 1} → statement M
-outline-bend-segment-spec =
+pub outline_bend_segment_spec : {M : Type 1} → statement M
+outline_bend_segment_spec =
     tie.close
     (tie.spec
     (λ c κs. tt)

@@ -7,12 +7,11 @@ use Rattle.outline.proofs.corners.outline_path_corners.Tie as tie
 
 returns : tie.Need-returns
 returns c =
-    let s = c.before.before.before.before.before.before in
-    let e = s.path-corners.ensures in
-    (c.corners-told.ensures.0 ∙ ap corners_code e.0, (c.corners-told.ensures.1 ∙ ap corners_words e.0, e.1))
+    let e = c.path_corners-a.ensures in
+    (c.corners_told.ensures.0 ∙ ap corners_code e.0, (c.corners_told.ensures.1 ∙ ap corners_words e.0, e.1))
 
-pub outline-path-corners-spec : {M : Type 1} → statement M
-outline-path-corners-spec =
+pub outline_path_corners_spec : {M : Type 1} → statement M
+outline_path_corners_spec =
     tie.close
     (tie.spec
     (λ c κs. tt)

@@ -5,26 +5,23 @@ use Rattle.answers.specs.Answers.{extent_code, extent_words, corners_left}
 use Rattle.outline.proofs.hits.outline_bounds.Statement.{statement}
 use Rattle.outline.proofs.hits.outline_bounds.Tie as tie
 
-returns : tie.Need-returns
+returns : tie.Need-returns-in-Refused
 unfolding extent_code extent_words corners_left
 returns c =
-    let m = c.before.before.before in
-    rw (← m.before.before.bounds.ensures, m.a.given.1) (refl, (refl, c.tell.ensures))
+    rw (← c.bounds-a.ensures, c.in-Refused.is) (refl, (refl, c.tell.ensures))
 
-returns-2 : tie.Need-returns-2
+returns-2 : tie.Need-returns-in-Empty
 unfolding extent_code extent_words corners_left
 returns-2 c =
-    let m = c.before.before in
-    rw (← m.before.before.bounds.ensures, m.enum_told.given.1) (refl, (refl, c.tell2.ensures))
+    rw (← c.bounds-a.ensures, c.in-Empty.is) (refl, (refl, c.tell-in-Empty.ensures))
 
-returns-3 : tie.Need-returns-3
+returns-3 : tie.Need-returns-in-Box
 unfolding extent_code extent_words corners_left
 returns-3 c =
-    let m = c.before.before.before.before in
-    rw (← m.before.before.bounds.ensures, m.a2.given.1) (refl, (refl, c.tell3.ensures))
+    rw (← c.bounds-a.ensures, c.in-Box.is) (refl, (refl, c.tell-in-Box.ensures))
 
-pub outline-bounds-spec : {M : Type 1} → statement M
-outline-bounds-spec =
+pub outline_bounds_spec : {M : Type 1} → statement M
+outline_bounds_spec =
     tie.close
     (tie.spec
     (λ c κs. tt)

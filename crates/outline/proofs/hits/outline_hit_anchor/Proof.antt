@@ -5,29 +5,23 @@ use Rattle.answers.specs.Answers.{hit_anchor_code, hit_anchor_words}
 use Rattle.outline.proofs.hits.outline_hit_anchor.Statement.{statement}
 use Rattle.outline.proofs.hits.outline_hit_anchor.Tie as tie
 
-returns : tie.Need-returns
+returns : tie.Need-returns-in-Refused
 unfolding hit_anchor_code hit_anchor_words
 returns c =
-    let m = c.before.before.before in
-    let l = m.before.before in
-    rw (← l.before.new.ensures, ← l.hit-anchor.ensures, m.a.given.1) (refl, c.tell.ensures)
+    rw (← c.new.ensures, ← c.hit_anchor-a.ensures, c.in-Refused.is) (refl, c.tell.ensures)
 
-returns-2 : tie.Need-returns-2
+returns-2 : tie.Need-returns-in-Nothing
 unfolding hit_anchor_code hit_anchor_words
 returns-2 c =
-    let m = c.before.before in
-    let l = m.before.before in
-    rw (← l.before.new.ensures, ← l.hit-anchor.ensures, m.enum_told.given.1) (refl, c.tell2.ensures)
+    rw (← c.new.ensures, ← c.hit_anchor-a.ensures, c.in-Nothing.is) (refl, c.tell-in-Nothing.ensures)
 
-returns-3 : tie.Need-returns-3
+returns-3 : tie.Need-returns-in-At
 unfolding hit_anchor_code hit_anchor_words
 returns-3 c =
-    let m = c.before.before in
-    let l = m.before.before in
-    rw (← l.before.new.ensures, ← l.hit-anchor.ensures, m.a2.given.1) (refl, refl)
+    rw (← c.new.ensures, ← c.hit_anchor-a.ensures, c.in-At.is) (refl, refl)
 
-pub outline-hit-anchor-spec : {M : Type 1} → statement M
-outline-hit-anchor-spec =
+pub outline_hit_anchor_spec : {M : Type 1} → statement M
+outline_hit_anchor_spec =
     tie.close
     (tie.spec
     (λ c κs. tt)

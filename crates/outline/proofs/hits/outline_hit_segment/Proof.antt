@@ -5,29 +5,23 @@ use Rattle.answers.specs.Answers.{hit_segment_code, hit_segment_words, parameter
 use Rattle.outline.proofs.hits.outline_hit_segment.Statement.{statement}
 use Rattle.outline.proofs.hits.outline_hit_segment.Tie as tie
 
-returns : tie.Need-returns
+returns : tie.Need-returns-in-Refused
 unfolding hit_segment_code hit_segment_words parameter_left
 returns c =
-    let m = c.before.before.before in
-    let l = m.before.before in
-    rw (← l.before.new.ensures, ← l.hit-segment.ensures, m.a.given.1) (refl, (refl, c.tell.ensures))
+    rw (← c.new.ensures, ← c.hit_segment-a.ensures, c.in-Refused.is) (refl, (refl, c.tell.ensures))
 
-returns-2 : tie.Need-returns-2
+returns-2 : tie.Need-returns-in-Nothing
 unfolding hit_segment_code hit_segment_words parameter_left
 returns-2 c =
-    let m = c.before.before in
-    let l = m.before.before in
-    rw (← l.before.new.ensures, ← l.hit-segment.ensures, m.enum_told.given.1) (refl, (refl, c.tell2.ensures))
+    rw (← c.new.ensures, ← c.hit_segment-a.ensures, c.in-Nothing.is) (refl, (refl, c.tell-in-Nothing.ensures))
 
-returns-3 : tie.Need-returns-3
+returns-3 : tie.Need-returns-in-At
 unfolding hit_segment_code hit_segment_words parameter_left
 returns-3 c =
-    let m = c.before.before in
-    let l = m.before.before in
-    rw (← l.before.new.ensures, ← l.hit-segment.ensures, m.a2.given.1) (refl, (refl, refl))
+    rw (← c.new.ensures, ← c.hit_segment-a.ensures, c.in-At.is) (refl, (refl, refl))
 
-pub outline-hit-segment-spec : {M : Type 1} → statement M
-outline-hit-segment-spec =
+pub outline_hit_segment_spec : {M : Type 1} → statement M
+outline_hit_segment_spec =
     tie.close
     (tie.spec
     (λ c κs. tt)

@@ -7,12 +7,11 @@ use Rattle.outline.proofs.jobs.outline_read.Tie as tie
 
 returns : tie.Need-returns
 returns c =
-    let s = c.before.before.before.before.before.before.before.before in
-    let e = s.read.ensures in
-    (c.job-told.ensures.0 ∙ ap job_code e.0, (c.job-told.ensures.1 ∙ ap job_words e.0, e.1))
+    let e = c.read-a.ensures in
+    (c.job_told.ensures.0 ∙ ap job_code e.0, (c.job_told.ensures.1 ∙ ap job_words e.0, e.1))
 
-pub outline-read-spec : {M : Type 1} → statement M
-outline-read-spec =
+pub outline_read_spec : {M : Type 1} → statement M
+outline_read_spec =
     tie.close
     (tie.spec
     (λ c κs. tt)

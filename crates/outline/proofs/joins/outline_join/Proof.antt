@@ -7,12 +7,11 @@ use Rattle.outline.proofs.joins.outline_join.Tie as tie
 
 returns : tie.Need-returns
 returns c =
-    let s = c.before.before.before.before.before.before in
-    let e = s.join.ensures in
-    (c.outline-told.ensures.0 ∙ ap outline_code e.0, (c.outline-told.ensures.1 ∙ ap outline_words e.0, e.1))
+    let e = c.join-told.ensures in
+    (c.outline_told.ensures.0 ∙ ap outline_code e.0, (c.outline_told.ensures.1 ∙ ap outline_words e.0, e.1))
 
-pub outline-join-spec : {M : Type 1} → statement M
-outline-join-spec =
+pub outline_join_spec : {M : Type 1} → statement M
+outline_join_spec =
     tie.close
     (tie.spec
     (λ c κs. tt)

@@ -7,12 +7,11 @@ use Rattle.outline.proofs.paths.outline_cut_corners.Tie as tie
 
 returns : tie.Need-returns
 returns c =
-    let s = c.before.before.before.before.before.before in
-    let e = s.cut-corners.ensures in
-    (c.outline-told.ensures.0 ∙ ap outline_code e.0, (c.outline-told.ensures.1 ∙ ap outline_words e.0, e.1))
+    let e = c.cut_corners-a.ensures in
+    (c.outline_told.ensures.0 ∙ ap outline_code e.0, (c.outline_told.ensures.1 ∙ ap outline_words e.0, e.1))
 
-pub outline-cut-corners-spec : {M : Type 1} → statement M
-outline-cut-corners-spec =
+pub outline_cut_corners_spec : {M : Type 1} → statement M
+outline_cut_corners_spec =
     tie.close
     (tie.spec
     (λ c κs. tt)

@@ -7,11 +7,10 @@ use Rattle.outline.proofs.paths.outline_to_svg_d.Tie as tie
 
 returns : tie.Need-returns
 returns c =
-    let s = c.before.before.before.before in
-    (c.text-told.ensures.0 ∙ ap text_code s.to-svg-d.ensures.0, (c.text-told.ensures.1 ∙ ap text_words s.to-svg-d.ensures.0, s.to-svg-d.ensures.1))
+    (c.text_told.ensures.0 ∙ ap text_code c.to_svg_d-a.ensures.0, (c.text_told.ensures.1 ∙ ap text_words c.to_svg_d-a.ensures.0, c.to_svg_d-a.ensures.1))
 
-pub outline-to-svg-d-spec : {M : Type 1} → statement M
-outline-to-svg-d-spec =
+pub outline_to_svg_d_spec : {M : Type 1} → statement M
+outline_to_svg_d_spec =
     tie.close
     (tie.spec
     (λ c κs. tt)

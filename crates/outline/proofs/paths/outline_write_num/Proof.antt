@@ -7,11 +7,10 @@ use Rattle.outline.proofs.paths.outline_write_num.Tie as tie
 
 returns : tie.Need-returns
 returns c =
-    let s = c.before.before.before.before in
-    (c.text-told.ensures.0 ∙ ap text_code s.write-num.ensures.0, (c.text-told.ensures.1 ∙ ap text_words s.write-num.ensures.0, s.write-num.ensures.1))
+    (c.text_told.ensures.0 ∙ ap text_code c.write_num-a.ensures.0, (c.text_told.ensures.1 ∙ ap text_words c.write_num-a.ensures.0, c.write_num-a.ensures.1))
 
-pub outline-write-num-spec : {M : Type 1} → statement M
-outline-write-num-spec =
+pub outline_write_num_spec : {M : Type 1} → statement M
+outline_write_num_spec =
     tie.close
     (tie.spec
     (λ c κs. tt)

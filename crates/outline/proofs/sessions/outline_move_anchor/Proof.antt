@@ -7,12 +7,11 @@ use Rattle.outline.proofs.sessions.outline_move_anchor.Tie as tie
 
 returns : tie.Need-returns
 returns c =
-    let s = c.before.before.before.before.before.before.before.before in
-    let e = s.move-anchor.ensures in
-    rw (← s.before.anchor-at.ensures) (record { number = c.edited-told.ensures.0 ∙ ap edited_code e.answer; answer = c.edited-told.ensures.1 ∙ ap edited_words e.answer; lists = e.lists })
+    let e = c.move_anchor-a.ensures in
+    rw (← c.anchor_at.ensures) (record { number = c.edited_told.ensures.0 ∙ ap edited_code e.answer; answer = c.edited_told.ensures.1 ∙ ap edited_words e.answer; lists = e.lists })
 
-pub outline-move-anchor-spec : {M : Type 1} → statement M
-outline-move-anchor-spec =
+pub outline_move_anchor_spec : {M : Type 1} → statement M
+outline_move_anchor_spec =
     tie.close
     (tie.spec
     (λ c κs. search rules)

@@ -7,17 +7,16 @@ use Rattle.outline.proofs.sessions.outline_replay.Tie as tie
 
 returns : tie.Need-returns
 returns c =
-    let s = c.before.before.before.before.before.before.before.before.before.before.before.before.before.before in
-    let e = s.replay.ensures in (
-      c.replayed-told.ensures.0 ∙ ap replayed_code e.0,
+    let e = c.replay-told.ensures in (
+      c.replayed_told.ensures.0 ∙ ap replayed_code e.0,
       (
-        c.replayed-told.ensures.1 ∙ ap replayed_words e.0,
+        c.replayed_told.ensures.1 ∙ ap replayed_words e.0,
         (e.1.0, (e.1.1.0, λ m h. e.1.1.1 m (e.0 ∙ h))),
       ),
     )
 
-pub outline-replay-spec : {M : Type 1} → statement M
-outline-replay-spec =
+pub outline_replay_spec : {M : Type 1} → statement M
+outline_replay_spec =
     tie.close
     (tie.spec
     (λ c κs. tt)

@@ -7,12 +7,11 @@ use Rattle.outline.proofs.sessions.outline_set_radius.Tie as tie
 
 returns : tie.Need-returns
 returns c =
-    let s = c.before.before.before.before.before.before.before.before in
-    let e = s.set-radius.ensures in
-    record { number = c.edited-told.ensures.0 ∙ ap edited_code e.answer; answer = c.edited-told.ensures.1 ∙ ap edited_words e.answer; lists = e.lists }
+    let e = c.set_radius-a.ensures in
+    record { number = c.edited_told.ensures.0 ∙ ap edited_code e.answer; answer = c.edited_told.ensures.1 ∙ ap edited_words e.answer; lists = e.lists }
 
-pub outline-set-radius-spec : {M : Type 1} → statement M
-outline-set-radius-spec =
+pub outline_set_radius_spec : {M : Type 1} → statement M
+outline_set_radius_spec =
     tie.close
     (tie.spec
     (λ c κs. tt)

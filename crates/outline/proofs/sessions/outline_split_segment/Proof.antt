@@ -7,12 +7,11 @@ use Rattle.outline.proofs.sessions.outline_split_segment.Tie as tie
 
 returns : tie.Need-returns
 returns c =
-    let s = c.before.before.before.before.before.before.before.before.before.before.before.before in
-    let e = s.split-segment.ensures in
-    record { number = c.edited-told.ensures.0 ∙ ap edited_code e.answer; answer = c.edited-told.ensures.1 ∙ ap edited_words e.answer; lists = e.lists }
+    let e = c.split_segment-told.ensures in
+    record { number = c.edited_told.ensures.0 ∙ ap edited_code e.answer; answer = c.edited_told.ensures.1 ∙ ap edited_words e.answer; lists = e.lists }
 
-pub outline-split-segment-spec : {M : Type 1} → statement M
-outline-split-segment-spec =
+pub outline_split_segment_spec : {M : Type 1} → statement M
+outline_split_segment_spec =
     tie.close
     (tie.spec
     (λ c κs. tt)

@@ -7,12 +7,11 @@ use Rattle.outline.proofs.shapes.outline_rect.Tie as tie
 
 returns : tie.Need-returns
 returns c =
-    let s = c.before.before.before.before.before.before in
-    let e = s.rect.ensures in
-    (c.outline-told.ensures.0 ∙ ap outline_code e.0, (c.outline-told.ensures.1 ∙ ap outline_words e.0, e.1))
+    let e = c.rect-a.ensures in
+    (c.outline_told.ensures.0 ∙ ap outline_code e.0, (c.outline_told.ensures.1 ∙ ap outline_words e.0, e.1))
 
-pub outline-rect-spec : {M : Type 1} → statement M
-outline-rect-spec =
+pub outline_rect_spec : {M : Type 1} → statement M
+outline_rect_spec =
     tie.close
     (tie.spec
     (λ c κs. tt)
