@@ -47,15 +47,15 @@ fn find_original(here: &Path, files: &[File]) -> PathBuf {
         })
 }
 
-/// Links liboutline.a, from the folder in `OUTLINE_LIB` or from the repository's target folder.
+/// Links liboutline.a, from the folder in `OUTLINE_LIB` or from where `rt lib` writes it.
 fn link(here: &Path, out: &Path) {
     println!("cargo:rerun-if-env-changed=OUTLINE_LIB");
     let given = env::var_os("OUTLINE_LIB").map(PathBuf::from);
-    let folder = given.unwrap_or_else(|| here.join("../target/staticlib"));
+    let folder = given.unwrap_or_else(|| here.join("../crates/outline/out"));
     let library = folder.join("liboutline.a");
     assert!(
         library.is_file(),
-        "no {}: run `rt staticlib outline` in the repository's root, or set OUTLINE_LIB",
+        "no {}: run `rt lib` in crates/outline, or set OUTLINE_LIB",
         library.display()
     );
     println!("cargo:rerun-if-changed={}", library.display());

@@ -1,7 +1,7 @@
 /* Splits a cubic in two, then asks for a split that is refused. Build it from the repository's root:
  *
- *     rt staticlib outline
- *     cc -std=c99 -Wall -Wextra -Werror -I include examples/cubic.c target/staticlib/liboutline.a -o cubic
+ *     (cd crates/outline && rt lib)
+ *     cc -std=c99 -Wall -Wextra -Werror -I include examples/cubic.c crates/outline/out/liboutline.a -o cubic
  */
 #include "outline.h"
 

@@ -1,8 +1,8 @@
 /* A square badge, kept cut while it is edited: a corner rounded, one moved, a side split, an edit that is refused; then its outline as
  * SVG path data. Build it from the repository's root:
  *
- *     rt staticlib outline
- *     cc -std=c99 -Wall -Wextra -Werror -I include examples/edits.c target/staticlib/liboutline.a -o edits
+ *     (cd crates/outline && rt lib)
+ *     cc -std=c99 -Wall -Wextra -Werror -I include examples/edits.c crates/outline/out/liboutline.a -o edits
  */
 #include "outline.h"
 
