@@ -4,7 +4,7 @@ ghost use Rattle.geom.specs.Box.{no_point, grown, is_empty};
 
 use crate::point::P;
 
-#[derive(Clone, Copy)]
+#[derive(Clone, Copy, Debug, PartialEq)]
 pub struct Bounds {
     pub min: P,
     pub max: P,
@@ -15,11 +15,9 @@ impl Bounds {
     pub fn empty() -> Bounds
         ensures { result ≡ no_point }
     {
-        let up = f64::from_bits(0x7ff0_0000_0000_0000);
-        let down = f64::from_bits(0xfff0_0000_0000_0000);
         Bounds {
-            min: P { x: up, y: up },
-            max: P { x: down, y: down },
+            min: P::new(f64::INFINITY, f64::INFINITY),
+            max: P::new(f64::NEG_INFINITY, f64::NEG_INFINITY),
         }
     }
 
@@ -28,14 +26,8 @@ impl Bounds {
         ensures { result ≡ grown self p }
     {
         Bounds {
-            min: P {
-                x: real::min(self.min.x, p.x),
-                y: real::min(self.min.y, p.y),
-            },
-            max: P {
-                x: real::max(self.max.x, p.x),
-                y: real::max(self.max.y, p.y),
-            },
+            min: P::new(real::min(self.min.x, p.x), real::min(self.min.y, p.y)),
+            max: P::new(real::max(self.max.x, p.x), real::max(self.max.y, p.y)),
         }
     }
 

@@ -1,8 +1,11 @@
 // `P`: a point, or a vector, of the plane.
 ghost use Rattle.std.specs.Prelude.{◌≡◌};
-ghost use Rattle.geom.specs.Point.{point, plus, minus, times, point_in, same, dot, cross, len, dist, lerp};
+ghost use Rattle.geom.specs.Point.{point, plus, minus, times, point_in, dot, cross, len, dist, lerp};
 
-#[derive(Clone, Copy)]
+use std::ops::{Add, Mul, Sub};
+
+// Equal by number: -0 is 0, and a NaN is nothing's equal.
+#[derive(Clone, Copy, Debug, PartialEq)]
 pub struct P {
     pub x: f64,
     pub y: f64,
@@ -12,7 +15,7 @@ impl P {
     pub fn new(x: f64, y: f64) -> P
         ensures { result ≡ point x y }
     {
-        P { x: x, y: y }
+        P { x, y }
     }
 
     // Whether both coordinates are within the limit.
@@ -20,13 +23,6 @@ impl P {
         ensures { result ≡ point_in self }
     {
         real::in_limit(self.x) && real::in_limit(self.y)
-    }
-
-    // Rust's `==`: by number, so -0 is 0 and a NaN is nothing's equal.
-    pub fn same(self, o: P) -> bool
-        ensures { result ≡ same self o }
-    {
-        self.x == o.x && self.y == o.y
     }
 
     pub fn dot(self, o: P) -> f64
@@ -44,7 +40,7 @@ impl P {
     pub fn dist(self, o: P) -> f64
         ensures { result ≡ dist self o }
     {
-        self.sub(o).len()
+        (self - o).len()
     }
 
     // The same two, where `hint` may be the answer: whatever it is, the contract is theirs.
@@ -57,41 +53,44 @@ impl P {
     pub fn dist_near(self, o: P, hint: f64) -> f64
         ensures { result ≡ dist self o }
     {
-        self.sub(o).len_near(hint)
+        (self - o).len_near(hint)
     }
 
     // The point t of the way to o.
     pub fn lerp(self, o: P, t: f64) -> P
         ensures { result ≡ lerp self o t }
     {
-        self.add(o.sub(self).mul(t))
+        self + (o - self) * t
     }
+}
 
-    pub fn add(self, o: P) -> P
-        ensures { result ≡ plus self o }
-    {
-        P {
-            x: self.x + o.x,
-            y: self.y + o.y,
-        }
+impl Add for P {
+    type Output = P;
+
+    ghost add_gives = { λ a b r. r ≡ plus a b };
+
+    fn add(self, o: P) -> P {
+        P::new(self.x + o.x, self.y + o.y)
     }
+}
 
-    pub fn sub(self, o: P) -> P
-        ensures { result ≡ minus self o }
-    {
-        P {
-            x: self.x - o.x,
-            y: self.y - o.y,
-        }
+impl Sub for P {
+    type Output = P;
+
+    ghost sub_gives = { λ a b r. r ≡ minus a b };
+
+    fn sub(self, o: P) -> P {
+        P::new(self.x - o.x, self.y - o.y)
     }
+}
 
-    pub fn mul(self, s: f64) -> P
-        ensures { result ≡ times self s }
-    {
-        P {
-            x: self.x * s,
-            y: self.y * s,
-        }
+impl Mul<f64> for P {
+    type Output = P;
+
+    ghost mul_gives = { λ a s r. r ≡ times a s };
+
+    fn mul(self, s: f64) -> P {
+        P::new(self.x * s, self.y * s)
     }
 }
 

@@ -140,3 +140,12 @@ overwrite-twice (suc n) f g (x ∷ xs) = ap (λ l. f zero ∷ l) (overwrite-twic
 
 pub overwrite-same : {A : Type 0} (d : A) (xs : List A) (n : ℕ) (f : ℕ → A) → ((i : ℕ) → i < n → get_or xs i d ≡ f i) → overwrite n f xs ≡ xs
 overwrite-same d xs n f h = sym (as_overwrite d xs xs n f refl h (λ i l. refl))
+
+-- the first n entries of one list before the rest of another
+pub overwrite-taken : {A : Type 0} (d : A) (n : ℕ) (xs ys : List A) → n ≤ length xs → n ≤ length ys → take n xs ++ drop n ys ≡ overwrite n (λ i. get_or xs i d) ys
+unfolding overwrite
+overwrite-taken d zero xs [] h l = refl
+overwrite-taken d zero xs (y ∷ ys) h l = refl
+overwrite-taken d (suc n) [] ys h l = absurd (not-suc-le-zero h)
+overwrite-taken d (suc n) (x ∷ xs) [] h l = absurd (not-suc-le-zero l)
+overwrite-taken d (suc n) (x ∷ xs) (y ∷ ys) h l = ap (λ r. x ∷ r) (overwrite-taken d n xs ys (le_of_suc-le-suc h) (le_of_suc-le-suc l))

@@ -1,11 +1,18 @@
 -- Laws of the searches. Assumes nothing.
 use mathlib.Core.Path.{◌≡◌, refl, sym, ap, ◌∙◌}
 use mathlib.Core.Bool.{Bool, true, false, not, ◌&&◌, cond}
+use mathlib.Core.List.{List, [], ◌∷◌}
 use Prim.Native.Nat.{ℕ, zero, suc, ◌+◌, ◌≤◌, ◌<◌, zero-le, suc-le-suc}
 use native.Mathlib.Nat.{le_of_suc-le-suc, not-suc-le-zero, le_refl, lt_trans, suc-add, add-zero}
 use native.Mathlib.Numerals.{add-one}
 use native.Mathlib.Omega.{arith}
 use lib.Dec.{eqb}
+use lib.ListN.{length, get_or, take, drop}
+use Rattle.std.proofs.lemmas.List.{length-take-le, get_or-take, length-drop, get_or-drop}
+use Rattle.std.specs.List.{list_all, AllWithin, HoldsAt, count_by}
+use Rattle.std.proofs.lemmas.List.Sums.{sum_by-cons}
+use Rattle.std.specs.Bool.{MatchBool}
+use Rattle.std.proofs.Common.{Option, Some, None, MatchOption, unwrap_or}
 use borrow.Author.Tests.{ne_eqb}
 use Rattle.views.specs.Search.{all, first_false, count}
 use Rattle.views.proofs.Bools.{and_false, both}
@@ -85,17 +92,6 @@ first_count p (suc n) h = go (p zero) refl (first_count (λ k. p (suc k)) n (λ 
     go true e r = ap suc r
     go false e r = sym (count_none (λ k. p (suc k)) n (λ k l. stays p (suc n) h e (suc k) (suc-le-suc l)))
 
--- all pass where none is counted that does not
-pub none_counted : (p : ℕ → Bool) (n : ℕ) → eqb (count (λ k. not (p k)) n) 0 ≡ all p n
-unfolding count all
-none_counted p zero = refl
-none_counted p (suc n) = go (p zero) (none_counted (λ k. p (suc k)) n)
-  where
-    go : (b : Bool) → eqb (count (λ k. not (p (suc k))) n) 0 ≡ all (λ k. p (suc k)) n
-        → eqb (cond (not b) (suc (count (λ k. not (p (suc k))) n)) (count (λ k. not (p (suc k))) n)) 0 ≡ (b && all (λ k. p (suc k)) n)
-    go true e = e
-    go false e = ne_eqb (suc (count (λ k. not (p (suc k))) n)) 0 (λ h. omega arith)
-
 -- ---- one place more
 count-suc : (p : ℕ → Bool) (n : ℕ) → count p (suc n) ≡ count p n + cond (p n) 1 0
 unfolding count
@@ -135,3 +131,42 @@ count_add p a (suc b) =
     step : (t : Bool) → p (a + b) ≡ t → count p (a + b) ≡ count p a + count (λ i. p (a + i)) b → count p (a + b + 1) ≡ count p a + count (λ i. p (a + i)) (b + 1)
     step true e h = omega (arith, count_more p (a + b) e, count_more (λ i. p (a + i)) b e)
     step false e h = omega (arith, count_same p (a + b) e, count_same (λ i. p (a + i)) b e)
+
+-- ---- the same of a list's entries, as an iterator over it tests them
+pub all_listed : {A : Type 0} (d : A) (p : A → Bool) (xs : List A) → list_all p xs ≡ all (λ i. p (get_or xs i d)) (length xs)
+unfolding all
+all_listed d p [] = refl
+all_listed d p (x ∷ xs) = ap (λ b. p x && b) (all_listed d p xs)
+
+-- what an iterator over a list answers of a test
+pub all_from_cases : {A : Type 0} (d : A) (p : A → Bool) (xs : List A) (r : Bool) → MatchBool r (AllWithin (λ x. p x ≡ true) xs 0 (length xs)) ((k : ℕ) × (k < length xs) × HoldsAt (λ x. p x ≡ false) xs k) → r ≡ all (λ i. p (get_or xs i d)) (length xs)
+all_from_cases d p xs true h = sym (all_true (λ i. p (get_or xs i d)) (length xs) (λ k l. h k d zero-le l))
+all_from_cases d p xs false h = sym (all_false (λ i. p (get_or xs i d)) (length xs) h.0 h.1 (h.2 d))
+
+-- what a count of those that fail says of all
+pub none_listed : {A : Type 0} (d : A) (p : A → Bool) (xs : List A) → eqb (count_by (λ x. not (p x)) xs) 0 ≡ all (λ i. p (get_or xs i d)) (length xs)
+unfolding all
+none_listed d p [] = refl
+none_listed d p (x ∷ xs) = rw (sum_by-cons (λ y. cond (not (p y)) 1 0) x xs) (go (p x) (count_by (λ y. not (p y)) xs) (all (λ i. p (get_or xs i d)) (length xs)) (none_listed d p xs))
+  where
+    go : (b : Bool) (n : ℕ) (rest : Bool) → eqb n 0 ≡ rest → eqb (cond (not b) 1 0 + n) 0 ≡ (b && rest)
+    go true n rest e = let z : 0 + n ≡ n = omega arith in ap (λ k. eqb k 0) z ∙ e
+    go false n rest e = ne_eqb (1 + n) 0 (λ z. omega arith)
+
+-- ---- a test of a part of a list is one of those indices
+pub all_taken : {A : Type 0} (d : A) (p : A → Bool) (xs : List A) (n : ℕ) → n ≤ length xs → all (λ i. p (get_or (take n xs) i d)) (length (take n xs)) ≡ all (λ i. p (get_or xs i d)) n
+all_taken d p xs n h =
+    let len = length-take-le n xs h in
+    ap (all (λ i. p (get_or (take n xs) i d))) len ∙ all_cong _ _ n (λ k l. ap p (get_or-take n xs k d l))
+
+pub all_dropped : {A : Type 0} (d : A) (p : A → Bool) (xs : List A) (a n : ℕ) → a + n ≤ length xs → all (λ i. p (get_or (take n (drop a xs)) i d)) (length (take n (drop a xs))) ≡ all (λ i. p (get_or xs (a + i) d)) n
+all_dropped d p xs a n h =
+    let room : n ≤ length (drop a xs) = rw (length-drop a xs) (omega arith) in
+    all_taken d p (drop a xs) n room ∙ all_cong _ _ n (λ k l. ap p (get_or-drop a xs k d))
+
+-- what an iterator over a list finds that fails, by its place
+pub first_from_position : {A : Type 0} (d : A) (p : A → Bool) (xs : List A) (r : Option ℕ) →
+    MatchOption r (AllWithin (λ x. p x ≡ true) xs 0 (length xs)) (λ i. (i < length xs) × HoldsAt (λ x. p x ≡ false) xs i × AllWithin (λ x. p x ≡ true) xs 0 i)
+    → unwrap_or r (length xs) ≡ first_false (λ k. p (get_or xs k d)) (length xs)
+first_from_position d p xs None h = sym (first_all _ _ (λ k l. h k d zero-le l))
+first_from_position d p xs (Some i) (l, at, before) = sym (first_at _ _ i l (λ j m. before j d zero-le m) (at d))

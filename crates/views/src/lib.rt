@@ -3,24 +3,12 @@
 #![tactic(auto)]
 
 ghost use Rattle.std.specs.Prelude.{◌≡◌, ◌≤◌, length, get_or};
-ghost use Rattle.views.specs.View.{entry, overwrite};
+ghost use Rattle.views.specs.View.{overwrite};
 
-// The first n numbers of one list into another.
-pub fn copy(from: &[f64], n: usize, to: &mut [f64])
+// The first n entries of one list into another.
+pub fn copy<T: Copy>(from: &[T], n: usize, to: &mut [T])
     requires { (n ≤ length from.now) × (n ≤ length to.old) }
-    ensures { to.new ≡ overwrite n (entry from.now) to.old }
+    ensures { (d : T) → to.new ≡ overwrite n (λ i. get_or from.now i d) to.old }
 {
-    for i in 0..n {
-        to[i] = from[i];
-    }
-}
-
-// The first n words of one list into another.
-pub fn copy_words(from: &[u32], n: usize, to: &mut [u32])
-    requires { (n ≤ length from.now) × (n ≤ length to.old) }
-    ensures { to.new ≡ overwrite n (λ i. get_or from.now i 0) to.old }
-{
-    for i in 0..n {
-        to[i] = from[i];
-    }
+    to[..n].copy_from_slice(&from[..n]);
 }
