@@ -1,5 +1,5 @@
 // Handles of circular arcs.
-#![tactic(auto)]
+#![tactic(auto, unfolding(crate::specs::Arc::square_to, crate::specs::Arc::arc_handle))]
 
 ghost use Rattle.std.specs.Prelude.{◌≡◌};
 ghost use Rattle.arc.specs.Arc.{square_to, arc_handle};
@@ -11,7 +11,7 @@ use side::unit;
 pub fn square_to(a: P, b: P) -> P
     ensures { result ≡ square_to a b }
 {
-    let w = b.sub(a.mul(a.dot(b)));
+    let w = b - a * a.dot(b);
     if path::beyond(w) {
         return unit(w);
     }

@@ -12,13 +12,14 @@ use Rattle.refusal.proofs.Verdicts.{in_order, failing, refusing, holds_says, acc
 use Rattle.path.specs.Shape.{total}
 use Rattle.path.specs.Limit.{place_in}
 use Rattle.path.proofs.Limits.{GoodBelow, search_to}
-use Rattle.corner.specs.declared.cut.CornerKind.{CornerKind}
+use Rattle.corner.specs.declared.kind.CornerKind.{CornerKind}
 use Rattle.call.specs.declared.opening.Opened.TheVariants.{Anchors}
 use Rattle.call.specs.Tests.{drawing_fits, drawing_limit, opened_drawing}
 use Rattle.call.proofs.Openings.{places_fail, places_pass, open_all, DrawingOpens, drawing_opens}
-use Rattle.cut_calls.specs.declared.kinds.Kind.{Kind}
-use Rattle.cut_calls.specs.declared.kinds.Kind.TheVariants.{Known, Unknown}
-use Rattle.cut_calls.specs.CornerKinds.{kind_of, is_known}
+use Rattle.std.proofs.Common.{Option}
+use Rattle.corner.specs.declared.kind.CornerKind.{CornerKind}
+use Rattle.std.proofs.Common.{Some, None}
+use Rattle.corner.specs.Kinds.{kind_of, is_known}
 use Rattle.cut_corners.specs.Calls.{cut_verdict}
 use Rattle.cache.specs.Tests.{cache_fits}
 use Rattle.cache.specs.Calls.{build_verdict}
@@ -60,16 +61,16 @@ module _ (shapes : List ℕ) (anchors radii : List Float) where
       → DrawingOpens shapes anchors radii (total shapes) × (loose ≡ true)
   opens_by loose fit e = let g = limit_says loose e in (drawing_opens shapes anchors radii (total shapes) (sym (opened fit g.0)), g.1)
 
-pub known_says : (k : Kind) → is_known k ≡ true → (c : CornerKind) × (k ≡ Known c)
+pub known_says : (k : Option CornerKind) → is_known k ≡ true → (c : CornerKind) × (k ≡ Some c)
 unfolding is_known
-known_says (Known c) e = (c, refl)
-known_says Unknown e = absurd (true≢false (sym e))
+known_says (Some c) e = (c, refl)
+known_says None e = absurd (true≢false (sym e))
 
 -- ---- a drawing of a known kind
 pub record Drawn (shapes : List ℕ) (anchors radii : List Float) (kind : ℕ) : Type 0 where
   pub opens : DrawingOpens shapes anchors radii (total shapes)
   pub way : CornerKind
-  pub known : kind_of kind ≡ Known way
+  pub known : kind_of kind ≡ Some way
 
 drawn_by : (shapes : List ℕ) (anchors radii : List Float) (kind : ℕ) → drawing_fits shapes anchors radii ≡ true → drawing_limit shapes anchors radii (is_known (kind_of kind)) ≡ passes
     → Drawn shapes anchors radii kind

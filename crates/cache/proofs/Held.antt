@@ -13,7 +13,7 @@ use Rattle.real.specs.Limit.{in_limit}
 use Rattle.refusal.specs.Order.{Test, passes}
 use Rattle.path.specs.Shape.{total, start, sub_of}
 use Rattle.path.proofs.Limits.{Least, search_to}
-use Rattle.corner.specs.declared.cut.CornerKind.{CornerKind}
+use Rattle.corner.specs.declared.kind.CornerKind.{CornerKind}
 use Rattle.cut.specs.declared.places.Place.{Place}
 use Rattle.cut.specs.View.{View}
 use Rattle.cut.specs.Places.{place_numbers}

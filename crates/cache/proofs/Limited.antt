@@ -25,10 +25,11 @@ use Rattle.path.specs.Flat.{numbers, nth}
 use Rattle.path.specs.Shape.{count_of, closed_of, total, word_at, start, sub_of}
 use Rattle.path.proofs.Shapes.{total_in}
 use Rattle.path.proofs.Limits.{GoodBelow}
+use Rattle.std.proofs.Common.{Option, Some, None}
 use Rattle.corner.specs.declared.cut.Cut.{Cut}
 use Rattle.cut.specs.declared.places.Place.{Place}
 use Rattle.cut.specs.View.{View}
-use Rattle.cut.specs.Places.{is_cut, cut_at, in_at, out_at, place_at, place_of, place_numbers}
+use Rattle.cut.specs.Places.{cut_at, in_at, out_at, place_at, place_of, place_numbers}
 use Rattle.cut.specs.Outline.{joined, anchors_at, held_back, assembled}
 use Rattle.assembly.specs.Assembled.{subpath_outline, outline_up_to, outline_of}
 use Rattle.call.specs.Tests.{outline_in}
@@ -181,10 +182,10 @@ zeros : anchor_good (without_handles origin) ≡ true
 unfolding anchor_good all numbers in_limit of_bits
 zeros = refl
 
-uncut_good : (a : Anchor) (b : Bool) (c : Cut) (p q : P) → (place_of a b c p q).cut ≡ false → anchor_good (place_of a b c p q).end ≡ true
+uncut_good : (a : Anchor) (c : Option Cut) (p q : P) → (place_of a c p q).cut ≡ false → anchor_good (place_of a c p q).end ≡ true
 unfolding place_of
-uncut_good a true c p q e = absurd (true≢false e)
-uncut_good a false c p q e = zeros
+uncut_good a (Some c) p q e = absurd (true≢false e)
+uncut_good a None p q e = zeros
 
 module _ (shapes : List ℕ) (view : ℕ → View) (k : ℕ) where
   abbrev at : Place
@@ -207,7 +208,7 @@ module _ (shapes : List ℕ) (view : ℕ → View) (k : ℕ) where
       let s = sub_of shapes k in
       let v = view s in
       let i = k - start shapes s in
-      uncut_good (v.anchor i) (is_cut v i) (cut_at v i) (in_at v i) (out_at v i) e
+      uncut_good (v.anchor i) (cut_at v i) (in_at v i) (out_at v i) e
 
   handed_cached : handed at ≡ true → cached_in (place_of_path shapes view) k ≡ true
   unfolding handed cached_in

@@ -13,7 +13,7 @@ use Rattle.refusal.specs.Order.{passes, holds, judge, accepted, refused}
 use Rattle.refusal.proofs.Verdicts.{in_order, by_lists, by_arguments, holds_false}
 use Rattle.path.specs.Shape.{total}
 use Rattle.path.proofs.Limits.{GoodBelow, Least}
-use Rattle.corner.specs.declared.cut.CornerKind.{CornerKind}
+use Rattle.corner.specs.declared.kind.CornerKind.{CornerKind}
 use Rattle.assembly.specs.Assembled.{place_read, outline_of, outline_shapes}
 use Rattle.call.specs.declared.opening.Opened.TheVariants as opened
 use Rattle.call.specs.declared.answers.Outline.TheVariants.{Refused}
@@ -21,8 +21,8 @@ use Rattle.call.specs.Tests.{opened_drawing}
 use Rattle.call.specs.Answers.{outline_answer, list_left}
 use Rattle.call.proofs.Openings.{places_fail, places_pass, DrawingOpens, drawing-refused}
 use Rattle.call.proofs.Handings.{outline-refused, list_kept, anchors_kept}
-use Rattle.cut_calls.specs.declared.kinds.Kind.TheVariants.{Known, Unknown}
-use Rattle.cut_calls.specs.CornerKinds.{kind_of, is_known}
+use Rattle.std.proofs.Common.{Some, None}
+use Rattle.corner.specs.Kinds.{kind_of, is_known}
 use Rattle.cut_calls.specs.PlainCut.{view_at}
 use Rattle.cut_calls.specs.Made.{made_verdict, made_answer, made_shapes, made_anchors}
 use Rattle.cache.specs.Cache.{place_of_path, cached_numbers, cached_flags, cached_in}
@@ -80,12 +80,12 @@ module _ (shapes : List ℕ) (anchors radii : List Float) (kind : ℕ) (numbers 
     build_opening c k e = in_order _ _ _ _ _ _ ∙ rw fit (drawing-refused shapes anchors radii c k e _ _)
 
     module _ (n : ℕ) (o : DrawingOpens shapes anchors radii n) where
-      pub build-kind : (m : ℕ) → m ≡ total shapes → kind_of kind ≡ Unknown → build_verdict shapes anchors radii kind numbers flags ≡ refused 5 m
+      pub build-kind : (m : ℕ) → m ≡ total shapes → kind_of kind ≡ None → build_verdict shapes anchors radii kind numbers flags ≡ refused 5 m
       unfolding build_verdict is_known
       build-kind m c e = rw c (by_arguments _ _ _ _ _ _ (rw fit o.lists_pass) (total shapes) (o.places_good _ ∙ holds_false (total shapes) (rw e)))
 
       -- a known kind: what is left is the cache's
-      module _ (k : CornerKind) (known : kind_of kind ≡ Known k) where
+      module _ (k : CornerKind) (known : kind_of kind ≡ Some k) where
         pub build-made : build_verdict shapes anchors radii kind numbers flags ≡ cache_verdict (cached_in (place_of_path shapes (view_at shapes anchors radii k))) (total shapes)
         unfolding build_verdict cache_verdict judge holds is_known cut_places
         build-made = in_order _ _ _ _ _ _ ∙ rw (fit, o.lists_pass, o.places_good, known)

@@ -19,7 +19,7 @@ use Rattle.path.specs.declared.anchor.Anchor.{Anchor}
 use Rattle.path.specs.Shape.{total, start}
 use Rattle.path.proofs.Shapes.{total_in}
 use Rattle.path.proofs.Limits.{search_to}
-use Rattle.corner.specs.declared.cut.CornerKind.{CornerKind}
+use Rattle.corner.specs.declared.kind.CornerKind.{CornerKind}
 use Rattle.cut.specs.declared.places.Place.{Place}
 use Rattle.cut.specs.View.{View}
 use Rattle.cut.specs.Subpath.{view_of}

@@ -10,9 +10,10 @@ use Rattle.assembly.specs.Assembled.{place_read, outline_of, outline_shapes}
 use Rattle.call.specs.declared.answers.Outline.{Outline}
 use Rattle.call.specs.Tests.{places, drawing_fits, drawing_limit, outline_limit, room_for}
 use Rattle.call.specs.Answers.{outline_answer, list_left, anchors_left}
-use Rattle.cut_calls.specs.declared.kinds.Kind.{Kind}
-use Rattle.cut_calls.specs.declared.kinds.Kind.TheVariants.{Known, Unknown}
-use Rattle.cut_calls.specs.CornerKinds.{kind_of, is_known}
+use Rattle.std.specs.Prelude.{Option}
+use Rattle.corner.specs.declared.kind.CornerKind.{CornerKind}
+use Rattle.std.specs.Prelude.{Some, None}
+use Rattle.corner.specs.Kinds.{kind_of, is_known}
 use Rattle.cut_calls.specs.PlainCut.{view_at}
 use Rattle.cache.specs.Cache.{place_of_path, cached_numbers, cached_flags, cached_in}
 use Rattle.cache.specs.Tests.{cache_fits}
@@ -20,9 +21,9 @@ use Rattle.cache.specs.Tests.{cache_fits}
 -- ---- `build`
 
 -- the places of the drawing's cut, where the kind is known
-unfoldable pub cut_places : List ℕ → List Float → List Float → Kind → ℕ → Place
-cut_places shapes anchors radii (Known k) = place_of_path shapes (view_at shapes anchors radii k)
-cut_places shapes anchors radii Unknown = λ i. record { cut = false; start = without_handles origin; end = without_handles origin }
+unfoldable pub cut_places : List ℕ → List Float → List Float → Option CornerKind → ℕ → Place
+cut_places shapes anchors radii (Some k) = place_of_path shapes (view_at shapes anchors radii k)
+cut_places shapes anchors radii None = λ i. record { cut = false; start = without_handles origin; end = without_handles origin }
 
 unfoldable pub build_verdict : List ℕ → List Float → List Float → ℕ → List Float → List ℕ → Verdict
 build_verdict shapes anchors radii kind numbers flags =

@@ -4,8 +4,8 @@ use Rattle.views.specs.View.{entry}
 use Rattle.views.specs.Search.{all}
 use Rattle.real.specs.Limit.{in_limit}
 use Rattle.refusal.specs.Order.{passes, judge, Verdict, accepted}
-use Rattle.path.specs.declared.shape.Sized.{Sized}
-use Rattle.path.specs.declared.shape.Sized.TheVariants.{Anchors, Wrong}
+use Rattle.std.specs.Prelude.{Option}
+use Rattle.std.specs.Prelude.{Some, None}
 use Rattle.path.specs.Shape.{total}
 use Rattle.call.specs.Tests.{places}
 
@@ -14,8 +14,8 @@ unfoldable pub cache_fits : List ℕ → List Float → List ℕ → Bool
 cache_fits shapes numbers flags =
     leb (length shapes) 32 && (leb (total shapes) 512 && (leb (total shapes * 12) (length numbers) && leb (total shapes) (length flags)))
 
-unfoldable pub cache_size : List ℕ → List Float → List ℕ → Sized
-cache_size shapes numbers flags = cond (cache_fits shapes numbers flags) (Anchors (total shapes)) Wrong
+unfoldable pub cache_size : List ℕ → List Float → List ℕ → Option ℕ
+cache_size shapes numbers flags = cond (cache_fits shapes numbers flags) (Some (total shapes)) None
 
 -- 9: the twelve numbers of place k of a list
 unfoldable pub twelve_in : List Float → ℕ → Bool

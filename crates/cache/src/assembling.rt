@@ -4,7 +4,6 @@ ghost use Rattle.cache.specs.Calls.{assemble_answer, assemble_shapes, assemble_a
 
 use crate::sizes::size_test;
 use call::Outline;
-use path::Sized;
 
 // The cut outline that a cache holds, in the order in which `cut_corners` pushes its anchors. Of a flag only the top bit is read.
 pub fn assemble(
@@ -19,7 +18,7 @@ pub fn assemble(
     ensures anchors { to.new ≡ assemble_anchors shapes.now numbers.now flags.now to_shapes.old to.old }
 {
     let size = size_test(shapes, numbers, flags);
-    let Sized::Anchors(places) = size else {
+    let Some(places) = size else {
         return Outline::Refused(refusal::LISTS, 0);
     };
     // Clearing the larger scratch would take longer than the rest.

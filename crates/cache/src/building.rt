@@ -11,8 +11,6 @@ use crate::sizes::size_test;
 use crate::writing::write_cache;
 use call::{Opened, Outline};
 use corner::CornerKind;
-use cut_calls::Kind;
-use path::Sized;
 
 // The cache of a drawing: its cut, place by place, every corner in one way. The answer's anchors are the places.
 pub fn build(
@@ -28,25 +26,25 @@ pub fn build(
     ensures flags { flags.new ≡ build_flags shapes.now anchors.now radii.now kind numbers.old flags.old }
 {
     let size = size_test(shapes, numbers, flags);
-    let Sized::Anchors(places) = size else {
+    let Some(places) = size else {
         return Outline::Refused(refusal::LISTS, 0);
     };
     let opened = call::open_drawing(shapes, anchors, radii);
     if let Opened::Refused(number, place) = opened {
         return Outline::Refused(number, place);
     }
-    let known = cut_calls::kind_of(kind);
-    let Kind::Known(way) = known else {
+    let Ok(kind) = CornerKind::try_from(kind) else {
         return Outline::Refused(refusal::ARGUMENTS, places);
     };
+    // Clearing the larger scratch would take longer than the cut.
     if places <= 32 {
-        return build_small(shapes, anchors, radii, way, numbers, flags);
+        return build_within::<32, 384>(shapes, anchors, radii, kind, numbers, flags);
     }
-    build_large(shapes, anchors, radii, way, numbers, flags)
+    build_within::<512, 6144>(shapes, anchors, radii, kind, numbers, flags)
 }
 
-// With scratch for 32 places: clearing the larger one would take longer than the cut.
-fn build_small(
+// With scratch for so many places, and for twelve numbers each.
+fn build_within<const PLACES: usize, const NUMBERS: usize>(
     shapes: &[u32],
     anchors: &[f64],
     radii: &[f64],
@@ -54,17 +52,17 @@ fn build_small(
     numbers: &mut [f64],
     flags: &mut [u32],
 ) -> Outline
-    requires shapes_len_bound { (length shapes.now ≤ 32) × (total shapes.now ≤ 32) × (total shapes.now * 6 ≤ length anchors.now) × (total shapes.now ≤ length radii.now) }
-    requires shapes_in_bounds { (total shapes.now * 12 ≤ length numbers.old) × (total shapes.now ≤ length flags.old) }
+    requires drawing { (length shapes.now ≤ 32) × (total shapes.now ≤ 512) × (total shapes.now * 6 ≤ length anchors.now) × (total shapes.now ≤ length radii.now) }
+    requires cache { (total shapes.now * 12 ≤ length numbers.old) × (total shapes.now ≤ length flags.old) }
+    requires scratch { (total shapes.now ≤ PLACES) × (PLACES * 12 ≤ NUMBERS) × (NUMBERS ≤ 6144) }
     ensures answer { result ≡ outline_answer (cache_verdict (cached_in (place_of_path shapes.now (view_at shapes.now anchors.now radii.now kind))) (total shapes.now)) (length shapes.now) (total shapes.now) }
     ensures numbers { numbers.new ≡ list_left (cache_verdict (cached_in (place_of_path shapes.now (view_at shapes.now anchors.now radii.now kind))) (total shapes.now)) (total shapes.now * 12) (cached_numbers (place_of_path shapes.now (view_at shapes.now anchors.now radii.now kind))) numbers.old }
     ensures flags { flags.new ≡ list_left (cache_verdict (cached_in (place_of_path shapes.now (view_at shapes.now anchors.now radii.now kind))) (total shapes.now)) (total shapes.now) (cached_flags (place_of_path shapes.now (view_at shapes.now anchors.now radii.now kind))) flags.old }
 {
-    let mut rows = [0.0f64; 224];
-    let mut cuts = [0.0f64; 320];
-    let mut marks = [0u32; 32];
-    let mut laid = [0.0f64; 384];
-    let mut laid_flags = [0u32; 32];
+    let mut rows = [None; PLACES];
+    let mut cuts = [None; PLACES];
+    let mut laid = [0.0f64; NUMBERS];
+    let mut laid_flags = [0u32; PLACES];
     cut_calls::lay_drawing(
         shapes,
         anchors,
@@ -72,41 +70,6 @@ fn build_small(
         kind,
         &mut rows,
         &mut cuts,
-        &mut marks,
-        &mut laid,
-        &mut laid_flags,
-    );
-    write_cache(shapes, &laid, &laid_flags, numbers, flags)
-}
-
-// With scratch for 512 places.
-fn build_large(
-    shapes: &[u32],
-    anchors: &[f64],
-    radii: &[f64],
-    kind: CornerKind,
-    numbers: &mut [f64],
-    flags: &mut [u32],
-) -> Outline
-    requires shapes_len_bound { (length shapes.now ≤ 32) × (total shapes.now ≤ 512) × (total shapes.now * 6 ≤ length anchors.now) × (total shapes.now ≤ length radii.now) }
-    requires shapes_in_bounds { (total shapes.now * 12 ≤ length numbers.old) × (total shapes.now ≤ length flags.old) }
-    ensures answer { result ≡ outline_answer (cache_verdict (cached_in (place_of_path shapes.now (view_at shapes.now anchors.now radii.now kind))) (total shapes.now)) (length shapes.now) (total shapes.now) }
-    ensures numbers { numbers.new ≡ list_left (cache_verdict (cached_in (place_of_path shapes.now (view_at shapes.now anchors.now radii.now kind))) (total shapes.now)) (total shapes.now * 12) (cached_numbers (place_of_path shapes.now (view_at shapes.now anchors.now radii.now kind))) numbers.old }
-    ensures flags { flags.new ≡ list_left (cache_verdict (cached_in (place_of_path shapes.now (view_at shapes.now anchors.now radii.now kind))) (total shapes.now)) (total shapes.now) (cached_flags (place_of_path shapes.now (view_at shapes.now anchors.now radii.now kind))) flags.old }
-{
-    let mut rows = [0.0f64; 3584];
-    let mut cuts = [0.0f64; 5120];
-    let mut marks = [0u32; 512];
-    let mut laid = [0.0f64; 6144];
-    let mut laid_flags = [0u32; 512];
-    cut_calls::lay_drawing(
-        shapes,
-        anchors,
-        radii,
-        kind,
-        &mut rows,
-        &mut cuts,
-        &mut marks,
         &mut laid,
         &mut laid_flags,
     );

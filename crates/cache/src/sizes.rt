@@ -2,21 +2,19 @@
 ghost use Rattle.std.specs.Prelude.{◌≡◌};
 ghost use Rattle.cache.specs.Tests.{cache_size};
 
-use path::Sized;
-
 // The anchors of a path whose cache these lists are long enough for.
-pub fn size_test(shapes: &[u32], numbers: &[f64], flags: &[u32]) -> Sized
+pub fn size_test(shapes: &[u32], numbers: &[f64], flags: &[u32]) -> Option<usize>
     ensures { result ≡ cache_size shapes.now numbers.now flags.now }
 {
     let size = path::size_test(shapes, 512);
-    let Sized::Anchors(n) = size else {
-        return Sized::Wrong;
+    let Some(n) = size else {
+        return None;
     };
     if numbers.len() < n * 12 {
-        return Sized::Wrong;
+        return None;
     }
     if flags.len() < n {
-        return Sized::Wrong;
+        return None;
     }
-    Sized::Anchors(n)
+    Some(n)
 }

@@ -7,18 +7,17 @@ ghost use Rattle.call.specs.Answers.{outline_answer, list_left};
 ghost use Rattle.cache.specs.Tests.{twelve_in, cache_verdict};
 
 use call::Outline;
-use path::Found;
 
 // The first of n places of which one of the twelve numbers breaks the limit.
-pub fn first_bad_place(numbers: &[f64], n: usize) -> Found
+pub fn first_bad_place(numbers: &[f64], n: usize) -> Option<usize>
     requires { (n ≤ 512) × (n * 12 ≤ length numbers.now) }
     ensures { result ≡ first_bad (twelve_in numbers.now) n }
 {
-    let mut found = Found::Nothing;
+    let mut found = None;
     'places: for k in 0..n {
         for i in 0..12 {
             if !real::in_limit(numbers[k * 12 + i]) {
-                found = Found::At(k);
+                found = Some(k);
                 break 'places;
             }
         }
@@ -42,10 +41,10 @@ pub fn write_cache(
 {
     let n = path::total_of(shapes);
     let bad = first_bad_place(laid, n);
-    if let Found::At(k) = bad {
+    if let Some(k) = bad {
         return Outline::Refused(refusal::RESULT, k);
     }
     views::copy(laid, n * 12, numbers);
-    views::copy_words(laid_flags, n, flags);
+    views::copy(laid_flags, n, flags);
     Outline::Accepted(shapes.len(), n)
 }

@@ -9,17 +9,17 @@ use borrow.Author.Tests.{leb-true}
 use Rattle.views.proofs.Bools.{and_left, and_right}
 use Rattle.refusal.specs.Order.{Test, passes, fails, holds, judge, Verdict, accepted, refused}
 use Rattle.refusal.proofs.Verdicts.{holds_true, holds_false, in_order, holds_says}
-use Rattle.path.specs.declared.shape.Sized.TheVariants.{Wrong}
-use Rattle.path.specs.declared.shape.Sized.TheVariants as sized
+use Rattle.std.proofs.Common.{None}
+use Rattle.std.proofs.Common.{Some, None}
 use Rattle.path.specs.Shape.{total}
 use Rattle.path.specs.Limit.{place_in}
 use Rattle.path.proofs.Limits.{GoodBelow}
-use Rattle.corner.specs.declared.cut.CornerKind.{CornerKind}
+use Rattle.corner.specs.declared.kind.CornerKind.{CornerKind}
 use Rattle.call.specs.declared.opening.Opened.TheVariants as opened
 use Rattle.call.specs.Tests.{drawing_fits, drawing_limit, opened_drawing}
 use Rattle.call.proofs.Openings.{places_pass, open_lists, answer-refused, answer_open}
-use Rattle.cut_calls.specs.declared.kinds.Kind.TheVariants as kinds
-use Rattle.cut_calls.specs.CornerKinds.{kind_of, is_known}
+use Rattle.std.proofs.Common.{Some, None}
+use Rattle.corner.specs.Kinds.{kind_of, is_known}
 use Rattle.session.specs.Drawing.{Lent, corner_kind}
 use Rattle.session.specs.Edits.{Edit}
 use Rattle.cache.specs.Tests.{cache_size}
@@ -39,20 +39,20 @@ module _ (l : Lent) where
   good = place_in l.anchors l.radii
 
   -- ---- 7: a list that is too long or too short
-  no_cache : cache_size l.shapes l.numbers l.flags ≡ Wrong → lists_fit l ≡ false
+  no_cache : cache_size l.shapes l.numbers l.flags ≡ None → lists_fit l ≡ false
   unfolding lists_fit
   no_cache e = rw (size_refused l.shapes l.numbers l.flags e)
 
-  pub cached_wrong : cache_size l.shapes l.numbers l.flags ≡ Wrong → opened.Refused 7 0 ≡ opened_cached l
+  pub cached_wrong : cache_size l.shapes l.numbers l.flags ≡ None → opened.Refused 7 0 ≡ opened_cached l
   unfolding opened_cached drawing_limit
   cached_wrong e = open_lists _ _ _ (no_cache e)
 
-  lists_drawing : (m : ℕ) → cache_size l.shapes l.numbers l.flags ≡ sized.Anchors m → lists_fit l ≡ drawing_fits l.shapes l.anchors l.radii
+  lists_drawing : (m : ℕ) → cache_size l.shapes l.numbers l.flags ≡ Some m → lists_fit l ≡ drawing_fits l.shapes l.anchors l.radii
   unfolding lists_fit
   lists_drawing m e = rw (size_says l.shapes l.numbers l.flags m e).0
 
   -- with a cache that is long enough the drawing's tests are left
-  pub cached_drawing : (m : ℕ) → cache_size l.shapes l.numbers l.flags ≡ sized.Anchors m → opened_drawing l.shapes l.anchors l.radii ≡ opened_cached l
+  pub cached_drawing : (m : ℕ) → cache_size l.shapes l.numbers l.flags ≡ Some m → opened_drawing l.shapes l.anchors l.radii ≡ opened_cached l
   unfolding opened_drawing opened_cached
   cached_drawing m e = rw (lists_drawing m e)
 
@@ -82,7 +82,7 @@ module _ (l : Lent) where
       unfolding ready_of ready
       ready_loose h = rw (opens.2, loose_fails h)
 
-      pub ready_unknown : kind_of kind ≡ kinds.Unknown → Refused 5 m ≡ ready_of l kind loose
+      pub ready_unknown : kind_of kind ≡ None → Refused 5 m ≡ ready_of l kind loose
       unfolding is_known
       ready_unknown h = ready_loose (rw h)
 
@@ -90,7 +90,7 @@ module _ (l : Lent) where
       unfolding judge
       loose_passes h = rw (holds_true 0 opens.0, places_fine, holds_true n h)
 
-      pub ready_known : (way : CornerKind) → kind_of kind ≡ kinds.Known way → loose ≡ true → Known m way ≡ ready_of l kind loose
+      pub ready_known : (way : CornerKind) → kind_of kind ≡ Some way → loose ≡ true → Known m way ≡ ready_of l kind loose
       unfolding ready_of ready is_known corner_kind
       ready_known way h k = rw (opens.2, loose_passes (rw (h, k)), h)
 

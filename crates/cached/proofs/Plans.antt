@@ -15,12 +15,12 @@ use Rattle.views.proofs.Laws.{order}
 use Rattle.real.specs.Limit.{in_limit}
 use Rattle.refusal.specs.Order.{refused}
 use Rattle.path.specs.declared.anchor.Anchor.{Anchor}
-use Rattle.path.specs.declared.limit.Found.TheVariants.{At, Nothing}
+use Rattle.std.proofs.Common.{Some, None}
 use Rattle.path.specs.Flat.{anchor_at}
 use Rattle.path.specs.Shape.{count_of, closed_of, total, word_at, start, has_anchor}
 use Rattle.path.proofs.Shapes.{total_in}
 use Rattle.path.proofs.Limits.{GoodBelow, Least, first_is, none_is}
-use Rattle.corner.specs.declared.cut.CornerKind.{CornerKind}
+use Rattle.corner.specs.declared.kind.CornerKind.{CornerKind}
 use Rattle.cut.specs.declared.subpath.Sub.{Sub}
 use Rattle.cut.specs.declared.subpath.Window.{Window}
 use Rattle.cut.specs.View.{View}
@@ -29,7 +29,7 @@ use Rattle.cut.specs.Near.{near_count}
 use Rattle.cut.specs.Places.{place_at, place_numbers}
 use Rattle.cut.specs.Recut.{reached}
 use Rattle.cut_calls.specs.PlainCut.{sub_at}
-use Rattle.cut_calls.specs.CornerKinds.{kind_of, is_known}
+use Rattle.corner.specs.Kinds.{kind_of, is_known}
 use Rattle.cache.specs.Cache.{cached_in}
 use Rattle.recutting.specs.declared.plans.Plan.{Plan}
 use Rattle.recutting.specs.Near.{reached_in, passes_near, good_near}
@@ -89,7 +89,7 @@ module _ (e : Edit) (s i reach : ℕ) (there : s < length e.made.shapes)
   unfolding good_near passes_near reached_in sub_at
   past_good k h = rw (le-ltb k (first + size) h, and_false)
 
-  pub found_bad : (k : ℕ) → places_found (view_in e.made s) (sub_at e.made.shapes s) (record { at = i; reach = reach }) ≡ At k → Least (recut_good e) (total e.made.shapes) k
+  pub found_bad : (k : ℕ) → places_found (view_in e.made s) (sub_at e.made.shapes s) (record { at = i; reach = reach }) ≡ Some k → Least (recut_good e) (total e.made.shapes) k
   unfolding places_found sub_at
   found_bad k h =
       let g = (first_is _ _ _).0 h in
@@ -99,7 +99,7 @@ module _ (e : Edit) (s i reach : ℕ) (there : s < length e.made.shapes)
         below = λ j l. sym (test-same j) ∙ g.below j l;
       }
 
-  pub found_good : places_found (view_in e.made s) (sub_at e.made.shapes s) (record { at = i; reach = reach }) ≡ Nothing → GoodBelow (recut_good e) (total e.made.shapes)
+  pub found_good : places_found (view_in e.made s) (sub_at e.made.shapes s) (record { at = i; reach = reach }) ≡ None → GoodBelow (recut_good e) (total e.made.shapes)
   unfolding places_found sub_at
   found_good h k l =
       let g = (none_is _ _).0 h in
@@ -224,7 +224,7 @@ module _ (l : Lent) (kind : ℕ) (c : Call) (s i reach : ℕ) (new : Anchor) (ra
     written : GoodBelow (written_good (edit_of (drawn l kind) c)) (total (edit_of (drawn l kind) c).made.shapes)
     written k h = one.written (and_right (is_known (kind_of kind)) (edit_of (drawn l kind) c).loose ready_here.arguments) k
 
-    refuses : (p.number ≡ 9) × (places_found (view_in (edit_of (drawn l kind) c).made s) (sub_at l.shapes s) (record { at = i; reach = reach }) ≡ At p.place) → Planned l kind c s i reach p
+    refuses : (p.number ≡ 9) × (places_found (view_in (edit_of (drawn l kind) c).made s) (sub_at l.shapes s) (record { at = i; reach = reach }) ≡ Some p.place) → Planned l kind c s i reach p
     refuses h =
         let r = ready_here in
         let n = h.0 in

@@ -2,10 +2,10 @@
 use Rattle.std.specs.Prelude.{ℕ, Bool, true, ◌&&◌, List, Float}
 use Rattle.refusal.specs.Order.{holds, judge, Verdict, accepted, refused}
 use Rattle.path.specs.Shape.{total}
-use Rattle.corner.specs.declared.cut.CornerKind.{CornerKind}
+use Rattle.corner.specs.declared.kind.CornerKind.{CornerKind}
 use Rattle.call.specs.declared.opening.Opened.{Opened}
 use Rattle.call.specs.Tests.{drawing_limit, opened}
-use Rattle.cut_calls.specs.CornerKinds.{kind_of, is_known}
+use Rattle.corner.specs.Kinds.{kind_of, is_known}
 use Rattle.session.specs.Drawing.{Lent, corner_kind}
 use Rattle.session.specs.Calls.{lists_fit}
 use Rattle.cached.specs.declared.opening.Ready.{Ready}

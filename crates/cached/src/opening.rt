@@ -7,8 +7,6 @@ ghost use Rattle.cached.specs.Opening.{lent, opened_cached, ready_of};
 use call::Opened;
 use corner::CornerKind;
 use cut::Sub;
-use cut_calls::Kind;
-use path::Sized;
 
 // 7 over the drawing's lists and the cache's, then 5 over the drawing.
 pub fn open_cached(
@@ -21,7 +19,7 @@ pub fn open_cached(
     ensures { result ≡ opened_cached (lent shapes.now anchors.now radii.now numbers.now flags.now) }
 {
     let size = cache::size_test(shapes, numbers, flags);
-    let Sized::Anchors(n) = size else {
+    let Some(n) = size else {
         return Opened::Refused(refusal::LISTS, 0);
     };
     call::open_drawing(shapes, anchors, radii)
@@ -50,8 +48,7 @@ pub fn open_edit(
     match opened {
         Opened::Refused(number, place) => Ready::Refused(number, place),
         Opened::Anchors(n) => {
-            let known = cut_calls::kind_of(kind);
-            let Kind::Known(way) = known else {
+            let Ok(way) = CornerKind::try_from(kind) else {
                 return Ready::Refused(refusal::ARGUMENTS, n);
             };
             if !loose {

@@ -15,7 +15,7 @@ use Rattle.real.specs.Operators.{0f}
 use Rattle.path.specs.Flat.{anchor_at, put_anchor}
 use Rattle.path.specs.Shape.{next}
 use Rattle.path.proofs.Places.{length-put, at_put, at_put_other}
-use Rattle.corner.specs.declared.cut.CornerKind.{CornerKind}
+use Rattle.corner.specs.declared.kind.CornerKind.{CornerKind}
 use Rattle.cut.specs.declared.subpath.Sub.{Sub}
 use Rattle.cut.specs.declared.subpath.Window.{Window}
 use Rattle.cut.specs.View.{View}

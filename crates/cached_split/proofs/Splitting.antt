@@ -14,13 +14,13 @@ use Rattle.views.proofs.Bools.{and_left, and_right}
 use Rattle.real.specs.Limit.{in_limit}
 use Rattle.refusal.specs.Order.{accepted, refused}
 use Rattle.path.specs.declared.anchor.Anchor.{Anchor}
-use Rattle.path.specs.declared.limit.Found.{Found}
-use Rattle.path.specs.declared.limit.Found.TheVariants.{At, Nothing}
+use Rattle.std.proofs.Common.{Option}
+use Rattle.std.proofs.Common.{Some, None}
 use Rattle.path.specs.Flat.{anchor_at}
 use Rattle.path.specs.Shape.{count_of, closed_of, total, word_at, start, is_segment, next}
 use Rattle.path.proofs.Shapes.{total_in}
 use Rattle.path.proofs.Limits.{GoodBelow, first_is, none_is, good_cong, least_cong}
-use Rattle.corner.specs.declared.cut.CornerKind.{CornerKind}
+use Rattle.corner.specs.declared.kind.CornerKind.{CornerKind}
 use Rattle.cut.specs.declared.subpath.Window.{Window}
 use Rattle.cut.specs.View.{View}
 use Rattle.cut.specs.Subpath.{view_of}
@@ -64,7 +64,7 @@ module _ (f : ℕ → Anchor) (a b : ℕ) (t : Float) where
   split_right x y = rw (ne_eqb (shifted a b) a x, ne_eqb (shifted a b) (a + 1) y, eq-eqb (shifted a b) (shifted a b) refl)
 
 -- the first of n places whose anchor, put there by a split between a and b, breaks the limit
-unfoldable pub puts_found : (ℕ → Anchor) → ℕ → ℕ → Float → ℕ → Found
+unfoldable pub puts_found : (ℕ → Anchor) → ℕ → ℕ → Float → ℕ → Option ℕ
 puts_found f a b t n = first_bad (puts_within (halves (f a) (f b) t) a (shifted a b)) n
 
 split-zero : (r : ℕ → Float) (a : ℕ) → split_radii r a (a + 1) ≡ 0f
@@ -182,14 +182,14 @@ module _ (l : Lent) (kind s a : ℕ) (t : Float) where
         few_made : total (split_shapes l.shapes s) ≤ 512
         few_made = omega (arith, made-total)
 
-        module _ (k : ℕ) (found : puts_found (anchor_at l.anchors) (segment_start l.shapes s a) (segment_end l.shapes s a) t (m + 1) ≡ At k) where
+        module _ (k : ℕ) (found : puts_found (anchor_at l.anchors) (segment_start l.shapes s a) (segment_end l.shapes s a) t (m + 1) ≡ Some k) where
           pub split-put_bad : edit_verdict l kind (edit_of (drawn l kind) (split s a t)) ≡ refused 9 k
           unfolding puts_found edit_of split_at drawn
           split-put_bad =
               let g = least_cong (puts_within h from (shifted from to)) (written_good edit) (m + 1) (λ j i. written_same j) k ((first_is (puts_within h from (shifted from to)) (m + 1) k).0 found) in
               out_written l kind edit r.fits r.good_places r.arguments has few_made k (rw made-total g)
 
-        module _ (found : puts_found (anchor_at l.anchors) (segment_start l.shapes s a) (segment_end l.shapes s a) t (m + 1) ≡ Nothing) where
+        module _ (found : puts_found (anchor_at l.anchors) (segment_start l.shapes s a) (segment_end l.shapes s a) t (m + 1) ≡ None) where
           written : GoodBelow (written_good (edit_of (drawn l kind) (split s a t))) (total (split_shapes l.shapes s))
           unfolding puts_found
           written =
@@ -285,7 +285,7 @@ module _ (l : Lent) (kind s a : ℕ) (t : Float) where
 
           module _ (p : Plan) where
             -- ---- 9, of the places recut
-            pub split-recut_bad : (p.number ≡ 9) × (places_found (view_in (split_at (drawn l kind) s a t) s) (grown (sub_at l.shapes s)) (record { at = a + 1; reach = 4 }) ≡ At p.place)
+            pub split-recut_bad : (p.number ≡ 9) × (places_found (view_in (split_at (drawn l kind) s a t) s) (grown (sub_at l.shapes s)) (record { at = a + 1; reach = 4 }) ≡ Some p.place)
                 → edit_verdict l kind (edit_of (drawn l kind) (split s a t)) ≡ refused p.number p.place
             unfolding edit_of split_at drawn
             split-recut_bad h =

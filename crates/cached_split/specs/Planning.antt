@@ -5,7 +5,7 @@ use Rattle.real.specs.Operators.{0f}
 use Rattle.refusal.specs.Order.{refused}
 use Rattle.path.specs.Flat.{anchor_at}
 use Rattle.path.specs.Shape.{total, next}
-use Rattle.corner.specs.declared.cut.CornerKind.{CornerKind}
+use Rattle.corner.specs.declared.kind.CornerKind.{CornerKind}
 use Rattle.cut.specs.declared.subpath.Sub.{Sub}
 use Rattle.cut.specs.View.{View}
 use Rattle.cut.specs.Near.{old}

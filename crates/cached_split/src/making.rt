@@ -10,7 +10,6 @@ ghost use Rattle.cached_split.specs.Splitting.{grown};
 
 use cut::Sub;
 use edit::Halved;
-use path::Found;
 
 // The ends of the segment from place a to place b, and the anchor between them.
 pub fn halved(anchors: &[f64], a: usize, b: usize, t: f64) -> Halved
@@ -21,7 +20,7 @@ pub fn halved(anchors: &[f64], a: usize, b: usize, t: f64) -> Halved
 }
 
 // The first of the three anchors put, where a segment from place a to place b is split into h, that breaks the limit.
-pub fn first_put(h: Halved, a: usize, b: usize) -> Found
+pub fn first_put(h: Halved, a: usize, b: usize) -> Option<usize>
     requires { (a < 512) × (b < 512) × (a ≡ b → ⊥) }
     ensures { (n : ℕ) → a < n → b < n → result ≡ first_bad (puts_within h a (shifted a b)) (n + 1) }
 {

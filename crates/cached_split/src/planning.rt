@@ -12,7 +12,7 @@ use cached::{Ready, has_segment, open_edit, sub_at};
 use corner::CornerKind;
 use cut::{Sub, Window};
 use edit::Halved;
-use path::{AnchorRef, Found};
+use path::AnchorRef;
 use recutting::{Plan, gather, plan_recut, refuse, rolled, stretch_of};
 
 // The plan of a subpath with an anchor put in after index a: the three of the segment split are put in its stretch.
@@ -81,7 +81,7 @@ fn plan_begun(
     let to = sub.first + path::next(sub.n, a);
     let h = halved(anchors, from, to, t);
     let bad = first_put(h, from, to);
-    if let Found::At(k) = bad {
+    if let Some(k) = bad {
         return refuse(refusal::RESULT, k);
     }
     let plan = plan_halves(anchors, radii, way, sub, a, h, more);

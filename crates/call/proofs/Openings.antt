@@ -13,8 +13,8 @@ use borrow.Author.Tests.{leb-true, le-leb, lt-leb, lt-ltb, le-ltb}
 use Rattle.views.proofs.Searches.{first_all, first_at}
 use Rattle.refusal.specs.Order.{Test, passes, fails, holds, judge, Verdict, accepted, refused}
 use Rattle.refusal.proofs.Verdicts.{holds_true}
-use Rattle.path.specs.declared.shape.Sized.TheVariants.{Wrong}
-use Rattle.path.specs.declared.shape.Sized.TheVariants as sized
+use Rattle.std.proofs.Common.{None}
+use Rattle.std.proofs.Common.{Some, None}
 use Rattle.path.specs.Shape.{total, sized_of}
 use Rattle.path.specs.Limit.{anchor_in, place_in}
 use Rattle.path.proofs.Shapes.{Fits}
@@ -108,17 +108,17 @@ module _ (b : Bool) (good : ℕ → Bool) (n : ℕ) where
 
 -- ---- a path
 -- the size that `size_test` refuses
-size_wrong : (most : ℕ) (shapes : List ℕ) (anchors : List Float) → sized_of shapes most ≡ Wrong → path_fits most shapes anchors ≡ false
+size_wrong : (most : ℕ) (shapes : List ℕ) (anchors : List Float) → sized_of shapes most ≡ None → path_fits most shapes anchors ≡ false
 unfolding sized_of path_fits
 size_wrong most shapes anchors = go (leb (length shapes) 32) (leb (total shapes) most)
   where
-    go : (p q : Bool) → cond (p && q) (sized.Anchors (total shapes)) Wrong ≡ Wrong → (p && (q && leb (total shapes * 6) (length anchors))) ≡ false
+    go : (p q : Bool) → cond (p && q) (Some (total shapes)) None ≡ None → (p && (q && leb (total shapes * 6) (length anchors))) ≡ false
     go true true e = let z : ◌≡◌ {A = ℕ} 0 1 = cc in absurd (omega arith)
     go true false e = refl
     go false q e = refl
 
 module _ (most : ℕ) (shapes : List ℕ) (anchors : List Float) where
-  pub path_wrong : sized_of shapes most ≡ Wrong → Refused 7 0 ≡ opened_path most shapes anchors
+  pub path_wrong : sized_of shapes most ≡ None → Refused 7 0 ≡ opened_path most shapes anchors
   unfolding opened_path path_limit
   path_wrong e = open_lists _ _ _ (size_wrong most shapes anchors e)
 
@@ -192,7 +192,7 @@ module _ (shapes : List ℕ) (anchors radii : List Float) where
   unfolding drawing_fits
   no_drawing e = rw e
 
-  pub drawing_wrong : sized_of shapes 512 ≡ Wrong → Refused 7 0 ≡ opened_drawing shapes anchors radii
+  pub drawing_wrong : sized_of shapes 512 ≡ None → Refused 7 0 ≡ opened_drawing shapes anchors radii
   unfolding opened_drawing drawing_limit
   drawing_wrong e = open_lists _ _ _ (no_drawing (size_wrong 512 shapes anchors e))
 

@@ -4,7 +4,6 @@ ghost use Rattle.path.specs.Shape.{total};
 ghost use Rattle.call.specs.Answers.{handed_answer, handed_shapes, handed_anchors};
 
 use crate::answers::Outline;
-use path::Found;
 
 // A path in scratch lists goes to lent ones, unless a number of it breaks the limit or they are too short.
 pub fn hand_over(words: &[u32], made: &[f64], to_shapes: &mut [u32], to: &mut [f64]) -> Outline
@@ -14,7 +13,7 @@ pub fn hand_over(words: &[u32], made: &[f64], to_shapes: &mut [u32], to: &mut [f
     ensures anchors { to.new ≡ handed_anchors words.now made.now to_shapes.old to.old }
 {
     let bad = path::first_bad_anchor(words, made);
-    if let Found::At(k) = bad {
+    if let Some(k) = bad {
         return Outline::Refused(refusal::RESULT, k);
     }
     let count = path::total_of(words);
@@ -24,7 +23,7 @@ pub fn hand_over(words: &[u32], made: &[f64], to_shapes: &mut [u32], to: &mut [f
     if to.len() < count * 6 {
         return Outline::Refused(refusal::OUTPUT, 0);
     }
-    views::copy_words(words, words.len(), to_shapes);
+    views::copy(words, words.len(), to_shapes);
     views::copy(made, count * 6, to);
     Outline::Accepted(words.len(), count)
 }

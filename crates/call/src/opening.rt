@@ -2,8 +2,6 @@
 ghost use Rattle.std.specs.Prelude.{◌≡◌, ◌≤◌};
 ghost use Rattle.call.specs.Tests.{opened_path, opened_drawing};
 
-use path::{Found, Sized};
-
 // A refusal's number and place, or how many anchors the path has.
 #[derive(Clone, Copy)]
 pub enum Opened {
@@ -17,14 +15,14 @@ pub fn open_path(most: usize, shapes: &[u32], anchors: &[f64]) -> Opened
     ensures { result ≡ opened_path most shapes.now anchors.now }
 {
     let size = path::size_test(shapes, most);
-    let Sized::Anchors(n) = size else {
+    let Some(n) = size else {
         return Opened::Refused(refusal::LISTS, 0);
     };
     if anchors.len() < n * 6 {
         return Opened::Refused(refusal::LISTS, 0);
     }
     let bad = path::first_bad_anchor(shapes, anchors);
-    if let Found::At(k) = bad {
+    if let Some(k) = bad {
         return Opened::Refused(refusal::ARGUMENTS, k);
     }
     Opened::Anchors(n)
@@ -35,7 +33,7 @@ pub fn open_drawing(shapes: &[u32], anchors: &[f64], radii: &[f64]) -> Opened
     ensures { result ≡ opened_drawing shapes.now anchors.now radii.now }
 {
     let size = path::size_test(shapes, 512);
-    let Sized::Anchors(n) = size else {
+    let Some(n) = size else {
         return Opened::Refused(refusal::LISTS, 0);
     };
     if anchors.len() < n * 6 {
@@ -45,7 +43,7 @@ pub fn open_drawing(shapes: &[u32], anchors: &[f64], radii: &[f64]) -> Opened
         return Opened::Refused(refusal::LISTS, 0);
     }
     let bad = path::first_bad_place(shapes, anchors, radii);
-    if let Found::At(k) = bad {
+    if let Some(k) = bad {
         return Opened::Refused(refusal::ARGUMENTS, k);
     }
     Opened::Anchors(n)

@@ -1,18 +1,16 @@
 -- Corners and the radii that fit them, after 000's `Corner`. Assumes nothing.
-use Rattle.std.specs.Prelude.{ℕ, ◌≡◌, Bool, true, false, ◌&&◌, cond, Float}
+use Rattle.std.specs.Prelude.{ℕ, ◌≡◌, Bool, ◌&&◌, cond, Option, Some, None, option_map, Float}
 use Rattle.std.specs.Float.{binary64}
 use Rattle.std.specs.Float.Ieee.{of_bits, lt}
 use Rattle.real.specs.Operators.{◌⊕◌, ◌⊖◌, ◌⊗◌, ◌⊘◌, 0f, 1f, 2f}
 use Rattle.real.specs.StandIns.{max, min, abs}
 use Rattle.real.specs.Finite.{is_finite}
 use Rattle.geom.specs.declared.point.P.{P}
-use Rattle.geom.specs.Point.{origin, plus, times, dot, cross}
+use Rattle.geom.specs.Point.{plus, times, dot, cross}
 use Rattle.cubic.specs.Cubic.{CEPS}
 use Rattle.path.specs.declared.anchor.Anchor.{Anchor}
 use Rattle.path.specs.Anchor.{is_smooth}
 use Rattle.side.specs.declared.side.Side.{Side}
-use Rattle.side.specs.declared.side.Direction.{Direction}
-use Rattle.side.specs.declared.side.Direction.TheVariants.{Along, Nowhere}
 use Rattle.corner.specs.declared.corner.Corner.{Corner}
 use Rattle.side.specs.Side.{side_of, direction, length_of, OnLine}
 
@@ -25,12 +23,6 @@ cos c = dot c.u c.v
 unfoldable pub sin : Corner → Float
 sin c = abs (cross c.u c.v)
 
--- all zero, and not found
-abbrev pub no_corner : Corner
-no_corner =
-    let none = side_of origin origin origin origin in
-    record { found = false; at = origin; u = origin; v = origin; lu = 0f; lv = 0f; side_u = none; side_v = none }
-
 -- the two sides that leave anchor a, as cubics
 abbrev pub side_before : Anchor → Anchor → Side
 side_before a prev = side_of a.p a.h_in prev.h_out prev.p
@@ -41,7 +33,6 @@ side_after a next = side_of a.p a.h_out next.h_in next.p
 -- a corner with its sides' lengths
 unfoldable pub with_lengths : ℕ → Corner → Corner
 with_lengths chords c = record {
-  found = c.found;
   at = c.at;
   u = c.u;
   v = c.v;
@@ -51,35 +42,33 @@ with_lengths chords c = record {
   side_v = c.side_v;
 }
 
--- corner k before its curved sides are measured: in the place of their lengths are other numbers, the first above 1e-9 where there is a corner
-pub record Unmeasured (chords : ℕ) (c k : Corner) : Type 0 where
-  pub is : with_lengths chords c ≡ k
-  pub found : lt CEPS c.lu ≡ c.found
-  pub line_u : OnLine chords c.side_u c.lu
-  pub line_v : OnLine chords c.side_v c.lv
+-- a corner, if there is one, before its curved sides are measured: in the place of their lengths are other numbers
+pub record Unmeasured (chords : ℕ) (c k : Option Corner) : Type 0 where
+  pub is : option_map (with_lengths chords) c ≡ k
+  pub lines : (d : Corner) → c ≡ Some d → OnLine chords d.side_u d.lu × OnLine chords d.side_v d.lv
 
 -- both sides are longer than 1e-9 and finite, and they meet at an angle
 unfoldable pub sharp : Corner → Bool
 sharp c = lt CEPS c.lu && lt CEPS c.lv && is_finite c.lu && is_finite c.lv && lt 1e-6 (sin c)
 
 -- the corner at which two sides leave in the directions u and v
-unfoldable pub meet : ℕ → P → P → P → Side → Side → Corner
+unfoldable pub meet : ℕ → P → P → P → Side → Side → Option Corner
 meet chords at u v su sv =
-    let c : Corner = record { found = true; at = at; u = u; v = v; lu = length_of chords su; lv = length_of chords sv; side_u = su; side_v = sv } in
-    cond (sharp c) c no_corner
+    let c : Corner = record { at = at; u = u; v = v; lu = length_of chords su; lv = length_of chords sv; side_u = su; side_v = sv } in
+    cond (sharp c) (Some c) None
 
 -- where both sides have one
-unfoldable pub between : ℕ → P → Side → Side → Direction → Direction → Corner
-between chords at su sv (Along u) (Along v) = meet chords at u v su sv
-between chords at su sv (Along u) Nowhere = no_corner
-between chords at su sv Nowhere d = no_corner
+unfoldable pub between : ℕ → P → Side → Side → Option P → Option P → Option Corner
+between chords at su sv (Some u) (Some v) = meet chords at u v su sv
+between chords at su sv (Some u) None = None
+between chords at su sv None d = None
 
 -- `Corner::of`, where a has both neighbours
-unfoldable pub corner_of : ℕ → Anchor → Anchor → Anchor → Corner
+unfoldable pub corner_of : ℕ → Anchor → Anchor → Anchor → Option Corner
 corner_of chords a prev next =
     let su = side_before a prev in
     let sv = side_after a next in
-    cond (is_smooth a) no_corner (between chords a.p su sv (direction su) (direction sv))
+    cond (is_smooth a) None (between chords a.p su sv (direction su) (direction sv))
 
 -- how far along each side a round cut of radius r meets it, and back
 unfoldable pub setback : Corner → Float → Float

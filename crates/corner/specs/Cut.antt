@@ -11,8 +11,8 @@ use Rattle.corner.specs.declared.corner.Corner.{Corner}
 use Rattle.corner.specs.declared.cut.Lengths.{Lengths}
 use Rattle.corner.specs.declared.cut.Handles.{Handles}
 use Rattle.corner.specs.declared.cut.Cut.{Cut}
-use Rattle.corner.specs.declared.cut.CornerKind.{CornerKind}
-use Rattle.corner.specs.declared.cut.CornerKind.TheVariants.{Round, Inverted, Chamfer}
+use Rattle.corner.specs.declared.kind.CornerKind.{CornerKind}
+use Rattle.corner.specs.declared.kind.CornerKind.TheVariants.{Round, Inverted, Chamfer}
 use Rattle.side.specs.Side.{is_straight_side, at_length}
 use Rattle.arc.specs.Arc.{square_to, arc_handle}
 use Rattle.corner.specs.Corner.{1e-6, setback}

@@ -1,2 +1,3 @@
 pub mod Corner
 pub mod Cut
+pub mod Kinds

@@ -1,16 +1,15 @@
 // `Corner`: where two sides meet at an angle.
 ghost use Rattle.std.specs.Prelude.{◌≡◌};
-ghost use Rattle.corner.specs.Corner.{with_lengths, Unmeasured, corner_of, meet, no_corner, sharp, cos, sin, setback, radius_at_setback, max_radius, room, max_radius_beside, on_bisector, radius_change};
+ghost use Rattle.corner.specs.Corner.{with_lengths, Unmeasured, corner_of, meet, sharp, cos, sin, setback, radius_at_setback, max_radius, room, max_radius_beside, on_bisector, radius_change};
 
 use geom::{P, cross};
 use path::Anchor;
-use side::{Direction, Side};
+use side::{Heading, Side};
 
 // The point, the unit directions in which the sides leave it (towards the previous anchor, then the next), the sides'
-// lengths, and the sides. Where an anchor is no corner, found is false and all else zero.
-#[derive(Clone, Copy)]
+// lengths, and the sides.
+#[derive(Clone, Copy, Debug, PartialEq)]
 pub struct Corner {
-    pub found: bool,
     pub at: P,
     pub u: P,
     pub v: P,
@@ -21,47 +20,34 @@ pub struct Corner {
 }
 
 impl Corner {
-    // The corner that anchor a makes between its neighbours, its curved sides not yet measured.
-    pub fn of(a: Anchor, prev: Anchor, next: Anchor) -> Corner
+    // The corner that anchor a makes between its neighbours, if it makes one, its curved sides not yet measured.
+    pub fn of(a: Anchor, prev: Anchor, next: Anchor) -> Option<Corner>
         ensures { Unmeasured 128 result (corner_of 128 a prev next) }
     {
         if a.is_smooth() {
-            return Corner::none();
+            return None;
         }
-        let at = a.p;
-        let side_u = Side::of(at, a.h_in, prev.h_out, prev.p);
-        let side_v = Side::of(at, a.h_out, next.h_in, next.p);
-        let hu = side_u.direction();
-        let du = hu.along;
-        let Direction::Along(u) = du else {
-            return Corner::none();
-        };
-        let hv = side_v.direction();
-        let dv = hv.along;
-        let Direction::Along(v) = dv else {
-            return Corner::none();
-        };
-        Corner::meet(at, u, v, side_u, side_v, hu.far, hv.far)
+        let side_u = Side::of(a.p, a.h_in, prev.h_out, prev.p);
+        let side_v = Side::of(a.p, a.h_out, next.h_in, next.p);
+        let hu = side_u.direction()?;
+        let hv = side_v.direction()?;
+        Corner::meet(a.p, hu, hv, side_u, side_v)
     }
 
-    // The corner at which two sides leave in the directions u and v. The hints may be their lengths.
-    fn meet(at: P, u: P, v: P, side_u: Side, side_v: Side, hint_u: f64, hint_v: f64) -> Corner
-        ensures { Unmeasured 128 result (meet 128 at u v side_u side_v) }
+    // The corner at which two sides leave with these headings.
+    fn meet(at: P, hu: Heading, hv: Heading, side_u: Side, side_v: Side) -> Option<Corner>
+        ensures { Unmeasured 128 result (meet 128 at hu.along hv.along side_u side_v) }
     {
         let c = Corner {
-            found: true,
-            at: at,
-            u: u,
-            v: v,
-            lu: side_u.reach(hint_u),
-            lv: side_v.reach(hint_v),
-            side_u: side_u,
-            side_v: side_v,
+            at,
+            u: hu.along,
+            v: hv.along,
+            lu: side_u.reach(hu.far),
+            lv: side_v.reach(hv.far),
+            side_u,
+            side_v,
         };
-        if c.sharp() {
-            return c;
-        }
-        Corner::none()
+        if c.sharp() { Some(c) } else { None }
     }
 
     // Whether both sides are longer than 1e-9, and finite, and meet at an angle.
@@ -79,38 +65,10 @@ impl Corner {
     pub fn measured(self) -> Corner
         ensures { result ≡ with_lengths 128 self }
     {
-        let at = self.at;
-        let u = self.u;
-        let v = self.v;
-        let side_u = self.side_u;
-        let side_v = self.side_v;
         Corner {
-            found: self.found,
-            at: at,
-            u: u,
-            v: v,
-            lu: side_u.length(self.lu),
-            lv: side_v.length(self.lv),
-            side_u: side_u,
-            side_v: side_v,
-        }
-    }
-
-    // No corner.
-    pub fn none() -> Corner
-        ensures { result ≡ no_corner }
-    {
-        let z = P { x: 0.0, y: 0.0 };
-        let side = Side { c: [z, z, z, z] };
-        Corner {
-            found: false,
-            at: z,
-            u: z,
-            v: z,
-            lu: 0.0,
-            lv: 0.0,
-            side_u: side,
-            side_v: side,
+            lu: self.side_u.length(self.lu),
+            lv: self.side_v.length(self.lv),
+            ..self
         }
     }
 
@@ -157,14 +115,14 @@ impl Corner {
     pub fn on_bisector(self, k: f64) -> P
         ensures { result ≡ on_bisector self k }
     {
-        self.at.add(self.u.add(self.v).mul(k))
+        self.at + (self.u + self.v) * k
     }
 
     // How much the radius grows when a handle on the bisector moves by d.
     pub fn radius_change(self, d: P) -> f64
         ensures { result ≡ radius_change self d }
     {
-        d.dot(self.u.add(self.v)) * self.sin() / (2.0 + 2.0 * self.cos())
+        d.dot(self.u + self.v) * self.sin() / (2.0 + 2.0 * self.cos())
     }
 }
 

@@ -5,22 +5,13 @@ ghost use Rattle.corner.specs.Corner.{with_lengths};
 ghost use Rattle.corner.specs.Cut.{straight_sides, cross_ahead, tangent_handles, round_handles, rounded, inverted, handles, cut};
 
 use crate::corner::Corner;
+use crate::kind::CornerKind;
 use arc::{arc_handle, square_to};
 use geom::{P, cross};
 use side::{At, is_straight_side};
 
-#[derive(Clone, Copy)]
-pub enum CornerKind {
-    // An arc tangent to both sides.
-    Round,
-    // An arc centred on the corner.
-    Inverted,
-    // A straight cut.
-    Chamfer,
-}
-
 // Where a cut meets the sides, as parameters and as points, and the handles between them.
-#[derive(Clone, Copy)]
+#[derive(Clone, Copy, Debug, PartialEq)]
 pub struct Cut {
     pub tu: f64,
     pub tv: f64,
@@ -31,14 +22,14 @@ pub struct Cut {
 }
 
 // The handles of a cut, out of its start and into its end.
-#[derive(Clone, Copy)]
+#[derive(Clone, Copy, Debug, PartialEq)]
 pub struct Handles {
     pub h_out: P,
     pub h_in: P,
 }
 
 // The lengths of a round cut's handles.
-#[derive(Clone, Copy)]
+#[derive(Clone, Copy, Debug, PartialEq)]
 pub struct Lengths {
     pub hu: f64,
     pub hv: f64,
@@ -57,22 +48,16 @@ impl Corner {
         ensures { result ≡ cut 128 self radius kind }
     {
         let s = self.setback(radius);
-        let side_u = self.side_u;
-        let side_v = self.side_v;
-        let a = side_u.at_length(s, self.u, self.lu, table_u);
-        let b = side_v.at_length(s, self.v, self.lv, table_v);
-        let start = a.p;
-        let end = b.p;
+        let a = self.side_u.at_length(s, self.u, self.lu, table_u);
+        let b = self.side_v.at_length(s, self.v, self.lv, table_v);
         let h = self.handles(radius, kind, s, a, b);
-        let h_out = h.h_out;
-        let h_in = h.h_in;
         Cut {
             tu: a.t,
             tv: b.t,
-            start: start,
-            h_out: h_out,
-            h_in: h_in,
-            end: end,
+            start: a.p,
+            h_out: h.h_out,
+            h_in: h.h_in,
+            end: b.p,
         }
     }
 
@@ -83,14 +68,10 @@ impl Corner {
         match kind {
             CornerKind::Round => self.rounded(radius, a, b),
             CornerKind::Inverted => inverted(s, a, b),
-            CornerKind::Chamfer => {
-                let start = a.p;
-                let end = b.p;
-                Handles {
-                    h_out: start,
-                    h_in: end,
-                }
-            }
+            CornerKind::Chamfer => Handles {
+                h_out: a.p,
+                h_in: b.p,
+            },
         }
     }
 
@@ -100,8 +81,8 @@ impl Corner {
     {
         let h = self.round_handles(radius, a, b);
         Handles {
-            h_out: a.p.sub(a.dir.mul(h.hu)),
-            h_in: b.p.sub(b.dir.mul(h.hv)),
+            h_out: a.p - a.dir * h.hu,
+            h_in: b.p - b.dir * h.hv,
         }
     }
 
@@ -120,11 +101,7 @@ impl Corner {
     fn straight_sides(self) -> bool
         ensures { result ≡ straight_sides self }
     {
-        let side_u = self.side_u;
-        let side_v = self.side_v;
-        let cu = side_u.c;
-        let cv = side_v.c;
-        is_straight_side(cu) && is_straight_side(cv)
+        is_straight_side(self.side_u.c) && is_straight_side(self.side_v.c)
     }
 }
 
@@ -134,8 +111,8 @@ fn inverted(s: f64, a: At, b: At) -> Handles
 {
     let h = s * arc_handle(a.dir.dot(b.dir));
     Handles {
-        h_out: a.p.add(square_to(a.dir, b.dir).mul(h)),
-        h_in: b.p.add(square_to(b.dir, a.dir).mul(h)),
+        h_out: a.p + square_to(a.dir, b.dir) * h,
+        h_in: b.p + square_to(b.dir, a.dir) * h,
     }
 }
 
@@ -145,7 +122,7 @@ fn tangent_handles(a: At, b: At) -> Lengths
 {
     let cos = a.dir.dot(b.dir);
     let cr = cross(a.dir, b.dir);
-    let w = a.p.sub(b.p);
+    let w = a.p - b.p;
     let x = cross(w, b.dir) / cr;
     let y = cross(w, a.dir) / cr;
     if cross_ahead(cr, x, y) {

@@ -20,6 +20,7 @@ use Rattle.call.specs.Tests.{opened_path}
 use Rattle.call.proofs.Openings.{PathOpens, path_refused}
 use Rattle.call.proofs.Handings.{list_kept, list_written}
 use Rattle.corner.specs.declared.corner.Corner.{Corner}
+use Rattle.std.proofs.Common.{Option}
 use Rattle.corner_calls.specs.declared.calls.Corners.TheVariants.{Refused, Accepted}
 use Rattle.corner_calls.specs.Corners.{path_corner, found_below, corner_places, numbers_of, Holds}
 use Rattle.corner_calls.specs.Calls.{
@@ -60,7 +61,7 @@ module _ (n : ℕ) (places : List ℕ) (numbers : List Float) where
   few_numbers h = rw (lt-leb _ _ h) (and_false (leb n (length places)))
 
 -- ---- corners that stand in scratch lists: one law for each return
-module _ (corner : ℕ → Corner) (k : ℕ) (at : List ℕ) (rows : List Float) (n : ℕ) (h : Holds corner k at rows n) (places : List ℕ) (numbers : List Float) where
+module _ (corner : ℕ → Option Corner) (k : ℕ) (at : List ℕ) (rows : List Float) (n : ℕ) (h : Holds corner k at rows n) (places : List ℕ) (numbers : List Float) where
   abbrev ps : List ℕ
   ps = found_below corner k
 

@@ -17,6 +17,7 @@ use Rattle.refusal.specs.Order.{verdict, first_failing, judge, holds, tests}
 use Rattle.call.specs.Tests.{places, path_fits, path_limit}
 use Rattle.call.specs.Answers.{list_left}
 use Rattle.side.specs.Side.{is_straight_side, unit, towards, direction, length_of}
+use Rattle.std.proofs.Common.{Some, option_map}
 use Rattle.corner.specs.Corner.{cos, sin, sharp, meet, between, corner_of, radius_at_setback, max_radius}
 use Rattle.cut.specs.View.{arrives, leaves}
 use Rattle.cut.specs.Subpath.{view_of}
@@ -44,7 +45,7 @@ unfolding corner_places found_below chosen path_corner sub_of sub_at plain_view 
 three_corners = refl
 
 -- at (8, 0), towards (-1, 0) and (0, 1), sides of 8, and a radius of 4
-its_numbers : corner_numbers (path_corner (3 ∷ []) turn 1) ≡ f 0x4020000000000000 ∷ f 0 ∷ f 0xBFF0000000000000 ∷ f 0 ∷ f 0 ∷ f 0x3FF0000000000000 ∷ f 0x4020000000000000 ∷ f 0x4020000000000000 ∷ f 0x4010000000000000 ∷ []
+its_numbers : option_map corner_numbers (path_corner (3 ∷ []) turn 1) ≡ Some (f 0x4020000000000000 ∷ f 0 ∷ f 0xBFF0000000000000 ∷ f 0 ∷ f 0 ∷ f 0x3FF0000000000000 ∷ f 0x4020000000000000 ∷ f 0x4020000000000000 ∷ f 0x4010000000000000 ∷ [])
 unfolding corner_places found_below chosen path_corner sub_of sub_at plain_view view_of corner_at arrives leaves prev next corner_of is_smooth between direction towards unit meet sharp sin cos length_of is_straight_side is_finite abs min max plus minus times dot cross len dist root_of of_bits add sub mul div lt le eq neg corner_numbers max_radius radius_at_setback
 its_numbers = refl
 

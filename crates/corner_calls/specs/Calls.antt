@@ -1,5 +1,5 @@
 -- What `path_corners` answers, and what it leaves in the lists lent to it. Assumes nothing.
-use Rattle.std.specs.Prelude.{ℕ, ◌*◌, Bool, true, ◌&&◌, List, leb, length, get_or, Float}
+use Rattle.std.specs.Prelude.{ℕ, ◌*◌, Bool, true, ◌&&◌, Option, List, leb, length, get_or, Float}
 use Rattle.views.specs.Search.{all}
 use Rattle.real.specs.Limit.{in_limit}
 use Rattle.refusal.specs.Order.{passes, holds, judge, Verdict, accepted, refused, verdict, tests}
@@ -11,7 +11,7 @@ use Rattle.corner_calls.specs.declared.calls.Corners.TheVariants.{Refused, Accep
 use Rattle.corner_calls.specs.Corners.{path_corner, corner_places, numbers_of}
 
 -- 9: every number told of the corners at the places ps; place 0, since they are no path
-unfoldable pub corners_in : (ℕ → Corner) → List ℕ → Bool
+unfoldable pub corners_in : (ℕ → Option Corner) → List ℕ → Bool
 corners_in corner ps = all (λ j. in_limit (numbers_of corner ps j)) (length ps * 9)
 
 -- 8: a word and nine numbers for each of n corners
@@ -49,7 +49,7 @@ module _ (shapes : List ℕ) (anchors : List Float) (places : List ℕ) (numbers
   path_corners_numbers = list_left path_corners_verdict (length (corner_places shapes anchors) * 9) (numbers_of (path_corner shapes anchors) (corner_places shapes anchors)) numbers
 
 -- ---- corners that are found: what is still tested, answered and left
-module _ (corner : ℕ → Corner) (ps places : List ℕ) (numbers : List Float) where
+module _ (corner : ℕ → Option Corner) (ps places : List ℕ) (numbers : List Float) where
   unfoldable pub found_verdict : Verdict
   found_verdict = judge (holds (corners_in corner ps) 0) 9 (judge (holds (corners_room (length ps) places numbers) 0) 8 accepted)
 

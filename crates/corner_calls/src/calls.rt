@@ -53,7 +53,7 @@ fn list_corners(shapes: &[u32], anchors: &[f64], places: &mut [u32], numbers: &m
     if numbers.len() < count * 9 {
         return Corners::Refused(refusal::OUTPUT, 0);
     }
-    views::copy_words(&at, count, places);
+    views::copy(&at, count, places);
     views::copy(&rows, count * 9, numbers);
     Corners::Accepted(count)
 }

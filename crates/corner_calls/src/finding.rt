@@ -9,11 +9,11 @@ use corner::Corner;
 use cut::Sub;
 
 // The corner at index i of a subpath, if there is one, with its sides' lengths.
-fn corner_at(anchors: &[f64], sub: Sub, i: usize) -> Corner
+fn corner_at(anchors: &[f64], sub: Sub, i: usize) -> Option<Corner>
     requires { Fits sub (length anchors.now) × (i < sub.n) }
     ensures { result ≡ corner_at (plain_view anchors.now sub) i }
 {
-    cut::corner_at(anchors, sub, i).measured()
+    cut::corner_at(anchors, sub, i).map(|c| c.measured())
 }
 
 // Puts a corner's nine numbers. Its largest radius takes the lengths that it holds.
@@ -21,7 +21,6 @@ fn put_corner(rows: &mut [f64], i: usize, c: Corner)
     requires { i * 9 + 9 ≤ length rows.old }
     ensures { rows.new ≡ put_corner rows.old i c }
 {
-    let radius = c.max_radius();
     let b = i * 9;
     rows[b] = c.at.x;
     rows[b + 1] = c.at.y;
@@ -31,7 +30,7 @@ fn put_corner(rows: &mut [f64], i: usize, c: Corner)
     rows[b + 5] = c.v.y;
     rows[b + 6] = c.lu;
     rows[b + 7] = c.lv;
-    rows[b + 8] = radius;
+    rows[b + 8] = c.max_radius();
 }
 
 // Adds the corners of subpath s, whose first anchor is at place `first`, to the `found` ones before it.
@@ -51,18 +50,16 @@ fn find_in_subpath(
     ensures rows_kept { length rows.new ≡ length rows.old }
     ensures found { Holds (path_corner shapes.now anchors.now) (first + count_of (word_at shapes.now s)) at.new rows.new result }
 {
-    let n = path::count_of(shapes[s]);
     let sub = Sub {
-        first: first,
-        n: n,
+        first,
+        n: path::count_of(shapes[s]),
         closed: path::closed_of(shapes[s]),
     };
     let mut count = found;
-    for i in 0..n {
-        let c = corner_at(anchors, sub, i);
-        if !c.found {
+    for i in 0..sub.n {
+        let Some(c) = corner_at(anchors, sub, i) else {
             continue;
-        }
+        };
         at[count] = (first + i) as u32;
         put_corner(rows, count, c);
         count += 1;
@@ -77,6 +74,7 @@ pub fn find_corners(shapes: &[u32], anchors: &[f64], at: &mut [u32], rows: &mut 
     ensures at_kept { length at.new ≡ length at.old }
     ensures rows_kept { length rows.new ≡ length rows.old }
     ensures found { Holds (path_corner shapes.now anchors.now) (total shapes.now) at.new rows.new result }
+    ensures few { result ≤ total shapes.now }
 {
     let mut first: usize = 0;
     let mut count: usize = 0;

@@ -9,10 +9,5 @@ pub fn all_in_limit(xs: &[f64], n: usize) -> bool
     requires { n ≤ length xs.now }
     ensures { result ≡ all (λ i. in_limit (entry xs.now i)) n }
 {
-    for i in 0..n {
-        if !real::in_limit(xs[i]) {
-            return false;
-        }
-    }
-    true
+    xs[..n].iter().all(|x| real::in_limit(*x))
 }

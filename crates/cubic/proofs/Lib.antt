@@ -1,4 +1,3 @@
-pub mod StepCounts
 pub mod DeCasteljau
 pub mod Chords
 pub mod FiniteChords

@@ -8,10 +8,5 @@ use geom::P;
 pub fn curve_in_limit(c: [P; 4]) -> bool
     ensures { result ≡ curve_in c }
 {
-    for k in 0..4 {
-        if !c[k].in_limit() {
-            return false;
-        }
-    }
-    true
+    c.iter().all(|p| p.in_limit())
 }

@@ -12,8 +12,7 @@ pub fn cubic_at(c: [P; 4], t: f64) -> P
     ensures { result ≡ cubic_at c t }
 {
     let u = 1.0 - t;
-    let a = c[0].mul(u * u * u).add(c[1].mul(3.0 * u * u * t));
-    a.add(c[2].mul(3.0 * u * t * t)).add(c[3].mul(t * t * t))
+    c[0] * (u * u * u) + c[1] * (3.0 * u * u * t) + c[2] * (3.0 * u * t * t) + c[3] * (t * t * t)
 }
 
 // 3s²·(c1 - c0) + 6st·(c2 - c1) + 3t²·(c3 - c2), with s = 1 - t.
@@ -21,29 +20,21 @@ pub fn deriv_at(c: [P; 4], t: f64) -> P
     ensures { result ≡ deriv_at c t }
 {
     let s = 1.0 - t;
-    let a = c[1].sub(c[0]).mul(3.0 * s * s);
-    let b = c[2].sub(c[1]).mul(6.0 * s * t);
-    a.add(b).add(c[3].sub(c[2]).mul(3.0 * t * t))
+    (c[1] - c[0]) * (3.0 * s * s) + (c[2] - c[1]) * (6.0 * s * t) + (c[3] - c[2]) * (3.0 * t * t)
 }
 
 // Whether both handles stand on their ends.
 pub fn straight(c: [P; 4]) -> bool
     ensures { result ≡ straight c }
 {
-    c[1].same(c[0]) && c[2].same(c[3])
+    c[1] == c[0] && c[2] == c[3]
 }
 
 // How many steps `sample` takes: one along a straight line, else n, and at least one.
 pub fn steps(c: [P; 4], n: usize) -> usize
     ensures { result ≡ steps c n }
 {
-    if straight(c) {
-        return 1;
-    }
-    if n < 1 {
-        return 1;
-    }
-    n
+    if straight(c) { 1 } else { n.max(1) }
 }
 
 // The point after k of n steps.

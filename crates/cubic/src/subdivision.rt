@@ -5,7 +5,7 @@ ghost use Rattle.cubic.specs.Cubic.{split_cubic, subsegment};
 use geom::P;
 
 // A cubic split in two.
-#[derive(Clone, Copy)]
+#[derive(Clone, Copy, Debug, PartialEq)]
 pub struct Halves {
     pub before: [P; 4],
     pub after: [P; 4],
@@ -34,9 +34,6 @@ pub fn subsegment(c: [P; 4], from: f64, to: f64) -> [P; 4]
     if to <= 1e-9 {
         return [c[0], c[0], c[0], c[0]];
     }
-    let first = split_cubic(c, real::min(to, 1.0));
-    let left = first.before;
-    let u = real::clamp(from / to, 0.0, 1.0);
-    let second = split_cubic(left, u);
-    second.after
+    let left = split_cubic(c, real::min(to, 1.0)).before;
+    split_cubic(left, real::clamp(from / to, 0.0, 1.0)).after
 }

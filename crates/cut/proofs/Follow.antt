@@ -8,12 +8,16 @@ use lib.Ieee.{Float, lt}
 use Rattle.views.proofs.Bools.{both}
 use Rattle.path.specs.declared.anchor.Anchor.{Anchor}
 use Rattle.corner.specs.declared.corner.Corner.{Corner}
-use Rattle.corner.specs.declared.cut.CornerKind.{CornerKind}
+use Rattle.corner.specs.declared.kind.CornerKind.{CornerKind}
 use Rattle.cut.specs.declared.places.Trim.{Trim}
-use Rattle.real.specs.Operators.{0f}
+use Rattle.std.proofs.Common.{Option, Some, None, option_map}
+use Rattle.std.specs.Option.{option_map_or}
+use Rattle.real.specs.Operators.{◌⊖◌, 0f, 1f}
 use Rattle.cubic.specs.Cubic.{CEPS}
 use Rattle.real.specs.StandIns.{max, min}
-use Rattle.corner.specs.Corner.{no_corner, corner_of, max_radius_beside}
+use Rattle.corner.specs.declared.cut.Cut.{Cut}
+use Rattle.corner.specs.Corner.{corner_of, max_radius_beside}
+use Rattle.corner.proofs.Measures.{none_some}
 use Rattle.corner.specs.Cut.{cut}
 use Rattle.cut.specs.View.{View, arrives, leaves}
 use Rattle.path.specs.Shape.{prev, next}
@@ -42,26 +46,51 @@ pub cond_same : {A : Type 0} (b c : Bool) (x y z : A) → b ≡ c → (b ≡ tru
 cond_same true c x y z e h = rw (← e) (h refl)
 cond_same false c x y z e h = rw (← e)
 
--- ---- a corner that is found has both neighbours
-pub inner : (w : View) (j : ℕ) → (corner_at w j).found ≡ true → (arrives w j ≡ true) × (leaves w j ≡ true)
+-- ---- a corner that there is has both neighbours
+pub inner : (w : View) (j : ℕ) (c : Corner) → corner_at w j ≡ Some c → (arrives w j ≡ true) × (leaves w j ≡ true)
 unfolding corner_at
-inner w j e = both (arrives w j) (leaves w j) (go (arrives w j && leaves w j) e)
+inner w j c e = both (arrives w j) (leaves w j) (go (arrives w j && leaves w j) e)
   where
-    go : (b : Bool) → (cond b (corner_of w.chords (w.anchor j) (w.anchor (prev w.n j)) (w.anchor (next w.n j))) no_corner).found ≡ true → b ≡ true
+    go : (b : Bool) → cond b (corner_of w.chords (w.anchor j) (w.anchor (prev w.n j)) (w.anchor (next w.n j))) None ≡ Some c → b ≡ true
     go true h = refl
-    go false h = h
+    go false h = absurd (none_some c h)
 
 -- ---- a segment reads of the cuts at its ends only what does not turn on the kind
-segment : ℕ → Anchor → Anchor → Corner → Corner → Float → Float → CornerKind → CornerKind → Trim
-segment h a b c d r q k l = cond (lt CEPS r || lt CEPS q) (trim a b (lt CEPS r) (lt CEPS q) (cut h c r k) (cut h d q l)) (record { out = a.h_out; into = b.h_in })
+made_of : ℕ → Option Corner → Float → CornerKind → Option Cut
+made_of h c r k = cond (lt CEPS r) (option_map (λ x. cut h x r k) c) None
 
-segment-kind : (h : ℕ) (a b : Anchor) (c d : Corner) (r q : Float) (k l k' l' : CornerKind) → segment h a b c d r q k l ≡ segment h a b c d r q k' l'
+read-same : {A : Type 0} (g : Cut → A) (h : ℕ) (c : Option Corner) (r : Float) (k l : CornerKind) (z : A) → ((x : Corner) → g (cut h x r k) ≡ g (cut h x r l))
+    → option_map_or g (made_of h c r k) z ≡ option_map_or g (made_of h c r l) z
+unfolding made_of
+read-same g h c r k l z e = go c (lt CEPS r)
+  where
+    go : (c : Option Corner) (b : Bool) → option_map_or g (cond b (option_map (λ x. cut h x r k) c) None) z ≡ option_map_or g (cond b (option_map (λ x. cut h x r l) c) None) z
+    go (Some x) true = e x
+    go (Some x) false = refl
+    go None true = refl
+    go None false = refl
+
+cut_is : (v : View) (i : ℕ) → cut_at v i ≡ made_of v.chords (corner_at v i) (fitted_at v i) (v.kind i)
+unfolding cut_at is_cut made_of
+cut_is v i = refl
+
+segment : ℕ → Anchor → Anchor → Option Corner → Option Corner → Float → Float → CornerKind → CornerKind → Trim
+segment h a b c d r q k l = cond (lt CEPS r || lt CEPS q) (trim a b (made_of h c r k) (made_of h d q l)) (record { out = a.h_out; into = b.h_in })
+
+segment-kind : (h : ℕ) (a b : Anchor) (c d : Option Corner) (r q : Float) (k l k' l' : CornerKind) → segment h a b c d r q k l ≡ segment h a b c d r q k' l'
 unfolding segment trim cut
-segment-kind h a b c d r q k l k' l' = refl
+segment-kind h a b c d r q k l k' l' =
+    rw (
+      read-same (λ x. x.tv) h c r k k' 0f (λ x. refl),
+      read-same (λ x. 1f ⊖ x.tu) h d q l l' 1f (λ x. refl),
+      read-same (λ x. x.end) h c r k k' a.p (λ x. refl),
+      read-same (λ x. x.start) h d q l l' b.p (λ x. refl),
+    )
+    refl
 
 trimmed_is : (v : View) (j k : ℕ) → leaves v j ≡ true → k ≡ next v.n j
     → trimmed_at v j ≡ segment v.chords (v.anchor j) (v.anchor k) (corner_at v j) (corner_at v k) (fitted_at v j) (fitted_at v k) (v.kind j) (v.kind k)
-unfolding trimmed_at is_cut cut_at segment
+unfolding trimmed_at is_cut cut_at segment made_of
 trimmed_is v j k l e = rw (e, l)
 
 module _ (v w : View) (s : ℕ → ℕ) (i : ℕ) (f : Follows v w s i) where
@@ -84,7 +113,7 @@ module _ (v w : View) (s : ℕ → ℕ) (i : ℕ) (f : Follows v w s i) where
 
   corner-same : (j : ℕ) → In w i 2 j → corner_at w j ≡ corner_at v (s j)
   unfolding corner_at
-  corner-same j h = cond_same (arrives w j && leaves w j) (arrives v (s j) && leaves v (s j)) _ _ no_corner (cc (f.arriving j h, f.leaving j h)) alike
+  corner-same j h = cond_same (arrives w j && leaves w j) (arrives v (s j) && leaves v (s j)) _ _ None (cc (f.arriving j h, f.leaving j h)) alike
     where
       alike : (arrives w j && leaves w j) ≡ true
           → corner_of w.chords (w.anchor j) (w.anchor (prev w.n j)) (w.anchor (next w.n j)) ≡ corner_of v.chords (v.anchor (s j)) (v.anchor (prev v.n (s j))) (v.anchor (next v.n (s j)))
@@ -98,14 +127,17 @@ module _ (v w : View) (s : ℕ → ℕ) (i : ℕ) (f : Follows v w s i) where
 
   fitted-same : (j : ℕ) → In w i 1 j → fitted_at w j ≡ fitted_at v (s j)
   unfolding fitted_at own_at
-  fitted-same j h = cond_same (corner_at w j).found (corner_at v (s j)).found _ _ 0f (ap (λ (c : Corner). c.found) (corner-same j (more 1 j h))) alike
+  fitted-same j h = ap (λ c. option_map_or fits c 0f) (corner-same j (more 1 j h)) ∙ go (corner_at v (s j)) (corner-same j (more 1 j h))
     where
-      alike : (corner_at w j).found ≡ true
-          → min (max (w.radius j) 0f) (max_radius_beside (corner_at w j) (asked_at w (prev w.n j)) (asked_at w (next w.n j)))
-          ≡ min (max (v.radius (s j)) 0f) (max_radius_beside (corner_at v (s j)) (asked_at v (prev v.n (s j))) (asked_at v (next v.n (s j))))
-      alike e =
-          let both = inner w j e in
-          cc (corner-same j (more 1 j h), f.radii j (more 1 j h), asked-same (prev w.n j) (step_back 1 j h both.0), asked-same (next w.n j) (step_on 1 j h both.1), f.back j (more 1 j h) both.0, f.on j (more 1 j h) both.1)
+      fits : Corner → Float
+      fits x = min (max (w.radius j) 0f) (max_radius_beside x (asked_at w (prev w.n j)) (asked_at w (next w.n j)))
+
+      go : (c : Option Corner) → corner_at w j ≡ c
+          → option_map_or fits c 0f ≡ option_map_or (λ x. min (max (v.radius (s j)) 0f) (max_radius_beside x (asked_at v (prev v.n (s j))) (asked_at v (next v.n (s j))))) c 0f
+      go None e = refl
+      go (Some c) e =
+          let both = inner w j c e in
+          cc (f.radii j (more 1 j h), asked-same (prev w.n j) (step_back 1 j h both.0), asked-same (next w.n j) (step_on 1 j h both.1), f.back j (more 1 j h) both.0, f.on j (more 1 j h) both.1)
 
   cut-same : (j : ℕ) → In w i 1 j → is_cut w j ≡ is_cut v (s j)
   unfolding is_cut
@@ -154,11 +186,10 @@ module _ (v w : View) (s : ℕ → ℕ) (i : ℕ) (f : Follows v w s i) where
           rw (← f.leaving i two, e, f.anchors i (more 2 i two))
 
   made-same : cut_at w i ≡ cut_at v (s i)
-  unfolding cut_at
-  made-same = let one = more 0 i self in cc (f.chords, corner-same i (more 1 i one), fitted-same i one, f.kind)
+  made-same = let one = more 0 i self in cut_is w i ∙ cc (f.chords, corner-same i (more 1 i one), fitted-same i one, f.kind) ∙ sym (cut_is v (s i))
 
   pub follows : place_at w i ≡ place_at v (s i)
   unfolding place_at
   follows =
       let one = more 0 i self in
-      cc (cut-same i one, made-same, f.anchors i (more 2 i (more 1 i one)), in-same, out_same)
+      cc (made-same, f.anchors i (more 2 i (more 1 i one)), in-same, out_same)

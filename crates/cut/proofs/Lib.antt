@@ -1,6 +1,5 @@
 pub mod Steps
 pub mod Shifts
-pub mod HeldRows
 pub mod Stages
 pub mod Whole
 pub mod Follow

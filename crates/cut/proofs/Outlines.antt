@@ -17,6 +17,10 @@ use Rattle.views.proofs.Laws.{tabulate_more}
 use Rattle.views.proofs.Searches.{count_more, count_same}
 use Rattle.geom.specs.declared.point.P.{P}
 use Rattle.path.specs.declared.anchor.Anchor.{Anchor}
+use Rattle.std.proofs.Common.{Option, Some, None, option_map, is_some}
+use Rattle.corner.specs.declared.corner.Corner.{Corner}
+use Rattle.corner.specs.declared.cut.Cut.{Cut}
+use Rattle.corner.specs.Cut.{cut}
 use Rattle.cut.specs.declared.places.Place.{Place}
 use Rattle.cut.specs.View.{View, arrives, leaves}
 use Rattle.path.specs.Shape.{prev, next}
@@ -89,13 +93,40 @@ pub assembled-length : (n : ℕ) (c : Bool) (f : ℕ → Place) → length (asse
 unfolding assembled
 assembled-length n c f = length-append (joined (anchors_at c f) n) (held_back n c f) ∙ total c f n
 
-pub place_cut : (v : View) (i : ℕ) → (place_at v i).cut ≡ is_cut v i
-unfolding place_at place_of
-place_cut v i = go (is_cut v i)
+-- a cut is made where the fitted radius is above 1e-9
+pub none-fits : (v : View) (i : ℕ) → corner_at v i ≡ None → is_cut v i ≡ false
+unfolding is_cut fitted_at lt of_bits
+none-fits v i e = rw e
+
+pub cut_not : (v : View) (i : ℕ) → is_cut v i ≡ false → cut_at v i ≡ None
+unfolding cut_at
+cut_not v i e = rw e refl
+
+pub cut_none : (v : View) (i : ℕ) → corner_at v i ≡ None → cut_at v i ≡ None
+cut_none v i e = cut_not v i (none-fits v i e)
+
+pub cut_some : (v : View) (i : ℕ) (c : Corner) → corner_at v i ≡ Some c → is_cut v i ≡ true → cut_at v i ≡ Some (cut v.chords c (fitted_at v i) (v.kind i))
+unfolding cut_at
+cut_some v i c e h = rw (h, e) refl
+
+pub cut_made : (v : View) (i : ℕ) → is_some (cut_at v i) ≡ is_cut v i
+unfolding cut_at
+cut_made v i = go (is_cut v i) (corner_at v i) refl refl
   where
-    go : (b : Bool) → (place_of (v.anchor i) b (cut_at v i) (in_at v i) (out_at v i)).cut ≡ b
-    go true = refl
-    go false = refl
+    go : (b : Bool) (c : Option Corner) → is_cut v i ≡ b → corner_at v i ≡ c → is_some (cond b (option_map (λ k. cut v.chords k (fitted_at v i) (v.kind i)) c) None) ≡ b
+    go true (Some c) h e = refl
+    go true None h e = sym (none-fits v i e) ∙ h
+    go false (Some c) h e = refl
+    go false None h e = refl
+
+place_some : (a : Anchor) (c : Option Cut) (p q : P) → (place_of a c p q).cut ≡ is_some c
+unfolding place_of
+place_some a (Some c) p q = refl
+place_some a None p q = refl
+
+pub place_cut : (v : View) (i : ℕ) → (place_at v i).cut ≡ is_cut v i
+unfolding place_at
+place_cut v i = place_some (v.anchor i) (cut_at v i) (in_at v i) (out_at v i) ∙ cut_made v i
 
 -- n anchors, and one for each index whose fitted radius is above 1e-9
 pub cut-length : (v : View) → length (cut_corners v) ≡ v.n + count (is_cut v) v.n
@@ -127,7 +158,7 @@ side_kept v j e h = rw (e, h, and_false (leaves v j))
 -- an anchor that is not cut, between two that are not
 pub place_kept : (v : View) (i : ℕ) → i < v.n → is_cut v i ≡ false → is_cut v (prev v.n i) ≡ false → is_cut v (next v.n i) ≡ false
     → place_at v i ≡ record { cut = false; start = v.anchor i; end = (without_handles origin) }
-unfolding place_at place_of in_at out_at
+unfolding place_at place_of cut_at in_at out_at
 place_kept v i l e f g =
     let b : is_cut v (next v.n (prev v.n i)) ≡ false = rw (next-prev v.n i l) e in
     rw (e, side_kept v (prev v.n i) f b, side_kept v i e g, next-prev v.n i l) (λ k. record {

@@ -5,8 +5,8 @@ use Rattle.real.specs.Operators.{0f}
 use Rattle.geom.specs.Point.{origin}
 use Rattle.path.specs.declared.anchor.Anchor.{Anchor}
 use Rattle.path.specs.Anchor.{without_handles}
-use Rattle.corner.specs.declared.cut.CornerKind.{CornerKind}
-use Rattle.corner.specs.declared.cut.CornerKind.TheVariants.{Round}
+use Rattle.corner.specs.declared.kind.CornerKind.{CornerKind}
+use Rattle.corner.specs.declared.kind.CornerKind.TheVariants.{Round}
 use Rattle.cut.specs.declared.places.Place.{Place}
 use Rattle.cut.specs.View.{View}
 use Rattle.cut.specs.Places.{place_at}

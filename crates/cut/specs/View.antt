@@ -1,7 +1,7 @@
 -- A subpath seen as functions of the index: what the corner cut reads. Assumes nothing.
 use Rattle.std.specs.Prelude.{ℕ, ◌+◌, Bool, ◌||◌, ltb, Float}
 use Rattle.path.specs.declared.anchor.Anchor.{Anchor}
-use Rattle.corner.specs.declared.cut.CornerKind.{CornerKind}
+use Rattle.corner.specs.declared.kind.CornerKind.{CornerKind}
 
 -- n anchors, each with the radius that is set there and the kind of its cut; `chords` for a curve's length
 pub record View : Type 0 where

@@ -10,7 +10,7 @@ use lib.Ieee.{Float}
 use Rattle.views.specs.Search.{count}
 use Rattle.path.specs.Shape.{total, start}
 use Rattle.path.proofs.Shapes.{total-next, total-end}
-use Rattle.corner.specs.declared.cut.CornerKind.{CornerKind}
+use Rattle.corner.specs.declared.kind.CornerKind.{CornerKind}
 use Rattle.cut.specs.View.{View}
 use Rattle.cut.specs.Places.{is_cut}
 use Rattle.cut.specs.Outline.{cut_corners}

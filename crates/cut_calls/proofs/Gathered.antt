@@ -11,7 +11,7 @@ use lib.Ieee.{Float}
 use Rattle.views.specs.View.{entry}
 use Rattle.path.specs.Flat.{anchor_at, numbers}
 use Rattle.path.specs.Shape.{start}
-use Rattle.corner.specs.declared.cut.CornerKind.{CornerKind}
+use Rattle.corner.specs.declared.kind.CornerKind.{CornerKind}
 use Rattle.cut.specs.declared.places.Place.{Place}
 use Rattle.cut.specs.View.{View}
 use Rattle.cut.specs.Subpath.{view_of}

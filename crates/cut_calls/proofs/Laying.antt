@@ -16,7 +16,7 @@ use Rattle.views.proofs.Laws.{same, length-tabulate, at_tabulate}
 use Rattle.path.specs.Flat.{anchor_at}
 use Rattle.path.specs.Shape.{count_of, closed_of, word_at, start}
 use Rattle.path.proofs.Shapes.{total-next}
-use Rattle.corner.specs.declared.cut.CornerKind.{CornerKind}
+use Rattle.corner.specs.declared.kind.CornerKind.{CornerKind}
 use Rattle.cut.specs.declared.subpath.Sub.{Sub}
 use Rattle.cut.specs.View.{View}
 use Rattle.cut.specs.Subpath.{view_of}

@@ -1,3 +1,2 @@
-pub mod CornerKinds
 pub mod PlainCut
 pub mod Made

@@ -1,11 +1,9 @@
-// What the calls that cut a drawing share, the plain cut and those on the cut cache: the kinds of cut by number, every subpath cut, and
-// the outline of the places handed over.
+// What the calls that cut a drawing share, the plain cut and those on the cut cache: every subpath cut, and the outline of the
+// places handed over.
 #![tactic(auto)]
 
 mod drawing;
 mod handing;
-mod kinds;
 
 pub use drawing::lay_drawing;
 pub use handing::hand_over;
-pub use kinds::{Kind, kind_of};

@@ -7,14 +7,14 @@ use lib.Ieee.{Float}
 use Rattle.refusal.specs.Order.{holds, judge, refused}
 use Rattle.refusal.proofs.Verdicts.{in_order, by_arguments, holds_false}
 use Rattle.path.specs.Shape.{total}
-use Rattle.corner.specs.declared.cut.CornerKind.{CornerKind}
+use Rattle.corner.specs.declared.kind.CornerKind.{CornerKind}
 use Rattle.call.specs.Tests.{opened_drawing}
 use Rattle.call.specs.declared.opening.Opened.TheVariants.{Refused}
 use Rattle.call.specs.declared.answers.Outline.TheVariants as outline
 use Rattle.call.proofs.Openings.{DrawingOpens, drawing-refused}
 use Rattle.call.proofs.Handings.{outline-refused, list_kept, anchors_kept}
-use Rattle.cut_calls.specs.declared.kinds.Kind.TheVariants.{Known, Unknown}
-use Rattle.cut_calls.specs.CornerKinds.{kind_of, is_known}
+use Rattle.std.proofs.Common.{Some, None}
+use Rattle.corner.specs.Kinds.{kind_of, is_known}
 use Rattle.cut_calls.specs.PlainCut.{view_at, cut_up_to, cut_shape}
 use Rattle.cut_calls.specs.Made.{made_verdict, made_answer, made_shapes, made_anchors}
 use Rattle.cut_corners.specs.Calls.{cut_outline, cut_words, cut_verdict, cut_answer, cut_shapes_left, cut_anchors_left}
@@ -25,7 +25,7 @@ module _ (shapes : List ℕ) (anchors radii : List Float) (kind : ℕ) (to_shape
   unfolding cut_verdict
   opening_fails c k e = in_order _ _ _ _ _ _ ∙ drawing-refused shapes anchors radii c k e _ _
 
-  pub kind_fails : (n : ℕ) → DrawingOpens shapes anchors radii n → kind_of kind ≡ Unknown → cut_verdict shapes anchors radii kind to_shapes to ≡ refused 5 n
+  pub kind_fails : (n : ℕ) → DrawingOpens shapes anchors radii n → kind_of kind ≡ None → cut_verdict shapes anchors radii kind to_shapes to ≡ refused 5 n
   unfolding cut_verdict is_known
   kind_fails n o e = rw o.count (by_arguments _ _ _ _ _ _ o.lists_pass (total shapes) (o.places_good _ ∙ holds_false (total shapes) (rw e)))
 
@@ -38,7 +38,7 @@ module _ (shapes : List ℕ) (anchors radii : List Float) (kind : ℕ) (to_shape
   refuses c k e = (outline-refused _ _ e, list_kept _ _ _ e, anchors_kept _ _ e)
 
   -- ---- past the first tests, with a known kind: what is left is the outline's
-  module _ (n : ℕ) (o : DrawingOpens shapes anchors radii n) (k : CornerKind) (known : kind_of kind ≡ Known k) where
+  module _ (n : ℕ) (o : DrawingOpens shapes anchors radii n) (k : CornerKind) (known : kind_of kind ≡ Some k) where
     pub as_made : cut_verdict shapes anchors radii kind to_shapes to ≡ made_verdict (length shapes) (cut_up_to (view_at shapes anchors radii k) (length shapes)) to_shapes to
     unfolding cut_verdict made_verdict judge holds is_known cut_outline
     as_made = in_order _ _ _ _ _ _ ∙ rw (o.lists_pass, o.places_good, known)

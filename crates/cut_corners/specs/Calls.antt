@@ -5,19 +5,20 @@ use Rattle.path.specs.declared.anchor.Anchor.{Anchor}
 use Rattle.call.specs.declared.answers.Outline.{Outline}
 use Rattle.call.specs.Tests.{drawing_fits, drawing_limit, outline_limit, room_for}
 use Rattle.call.specs.Answers.{outline_answer, list_left, anchors_left}
-use Rattle.cut_calls.specs.declared.kinds.Kind.{Kind}
-use Rattle.cut_calls.specs.declared.kinds.Kind.TheVariants.{Known, Unknown}
-use Rattle.cut_calls.specs.CornerKinds.{kind_of, is_known}
+use Rattle.std.specs.Prelude.{Option}
+use Rattle.corner.specs.declared.kind.CornerKind.{CornerKind}
+use Rattle.std.specs.Prelude.{Some, None}
+use Rattle.corner.specs.Kinds.{kind_of, is_known}
 use Rattle.cut_calls.specs.PlainCut.{view_at, cut_up_to, cut_shape}
 
 -- the cut outline and its shape words, where the kind is known
-unfoldable pub cut_outline : List ℕ → List Float → List Float → Kind → List Anchor
-cut_outline shapes anchors radii (Known k) = cut_up_to (view_at shapes anchors radii k) (length shapes)
-cut_outline shapes anchors radii Unknown = []
+unfoldable pub cut_outline : List ℕ → List Float → List Float → Option CornerKind → List Anchor
+cut_outline shapes anchors radii (Some k) = cut_up_to (view_at shapes anchors radii k) (length shapes)
+cut_outline shapes anchors radii None = []
 
-unfoldable pub cut_words : List ℕ → List Float → List Float → Kind → ℕ → ℕ
-cut_words shapes anchors radii (Known k) s = cut_shape (view_at shapes anchors radii k) s
-cut_words shapes anchors radii Unknown s = 0
+unfoldable pub cut_words : List ℕ → List Float → List Float → Option CornerKind → ℕ → ℕ
+cut_words shapes anchors radii (Some k) s = cut_shape (view_at shapes anchors radii k) s
+cut_words shapes anchors radii None s = 0
 
 -- a kind that is not known stands after the places, at the anchor count, as every loose argument
 unfoldable pub cut_verdict : List ℕ → List Float → List Float → ℕ → List ℕ → List Float → Verdict

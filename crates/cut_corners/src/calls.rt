@@ -7,7 +7,7 @@ ghost use Rattle.cut_corners.specs.Calls.{cut_answer, cut_shapes_left, cut_ancho
 
 use call::{Opened, Outline};
 use corner::CornerKind;
-use cut_calls::{Kind, hand_over, kind_of, lay_drawing};
+use cut_calls::{hand_over, lay_drawing};
 
 // The drawing's path with its corners cut, each radius fitted, every corner in one way.
 pub fn cut_corners(
@@ -26,20 +26,20 @@ pub fn cut_corners(
     match opened {
         Opened::Refused(number, place) => Outline::Refused(number, place),
         Opened::Anchors(n) => {
-            let known = kind_of(kind);
-            let Kind::Known(way) = known else {
+            let Ok(kind) = CornerKind::try_from(kind) else {
                 return Outline::Refused(refusal::ARGUMENTS, n);
             };
+            // Clearing the larger scratch would take longer than the cut.
             if n <= 32 {
-                return cut_small(shapes, anchors, radii, way, to_shapes, to);
+                return cut_within::<32, 384>(shapes, anchors, radii, kind, to_shapes, to);
             }
-            cut_large(shapes, anchors, radii, way, to_shapes, to)
+            cut_within::<512, 6144>(shapes, anchors, radii, kind, to_shapes, to)
         }
     }
 }
 
-// With scratch for 32 anchors: clearing the larger one would take longer than the cut.
-fn cut_small(
+// With scratch for so many anchors, and for twelve numbers each.
+fn cut_within<const ANCHORS: usize, const NUMBERS: usize>(
     shapes: &[u32],
     anchors: &[f64],
     radii: &[f64],
@@ -47,17 +47,17 @@ fn cut_small(
     to_shapes: &mut [u32],
     to: &mut [f64],
 ) -> Outline
-    requires { (length shapes.now ≤ 32) × (total shapes.now ≤ 32) × (total shapes.now * 6 ≤ length anchors.now) × (total shapes.now ≤ length radii.now) }
+    requires drawing { (length shapes.now ≤ 32) × (total shapes.now ≤ 512) × (total shapes.now * 6 ≤ length anchors.now) × (total shapes.now ≤ length radii.now) }
+    requires scratch { (total shapes.now ≤ ANCHORS) × (ANCHORS * 12 ≤ NUMBERS) × (NUMBERS ≤ 6144) }
     ensures answer { result ≡ made_answer (length shapes.now) (cut_up_to (view_at shapes.now anchors.now radii.now kind) (length shapes.now)) to_shapes.old to.old }
     ensures shapes { to_shapes.new ≡ made_shapes (length shapes.now) (cut_up_to (view_at shapes.now anchors.now radii.now kind) (length shapes.now)) (cut_shape (view_at shapes.now anchors.now radii.now kind)) to_shapes.old to.old }
     ensures anchors { to.new ≡ made_anchors (length shapes.now) (cut_up_to (view_at shapes.now anchors.now radii.now kind) (length shapes.now)) to_shapes.old to.old }
 {
-    let mut rows = [0.0f64; 224];
-    let mut cuts = [0.0f64; 320];
-    let mut marks = [0u32; 32];
-    let mut numbers = [0.0f64; 384];
-    let mut flags = [0u32; 32];
-    let mut made = [0.0f64; 384];
+    let mut rows = [None; ANCHORS];
+    let mut cuts = [None; ANCHORS];
+    let mut numbers = [0.0f64; NUMBERS];
+    let mut flags = [0u32; ANCHORS];
+    let mut made = [0.0f64; NUMBERS];
     lay_drawing(
         shapes,
         anchors,
@@ -65,41 +65,6 @@ fn cut_small(
         kind,
         &mut rows,
         &mut cuts,
-        &mut marks,
-        &mut numbers,
-        &mut flags,
-    );
-    hand_over(shapes, &numbers, &flags, &mut made, to_shapes, to)
-}
-
-// With scratch for 512 anchors.
-fn cut_large(
-    shapes: &[u32],
-    anchors: &[f64],
-    radii: &[f64],
-    kind: CornerKind,
-    to_shapes: &mut [u32],
-    to: &mut [f64],
-) -> Outline
-    requires { (length shapes.now ≤ 32) × (total shapes.now ≤ 512) × (total shapes.now * 6 ≤ length anchors.now) × (total shapes.now ≤ length radii.now) }
-    ensures answer { result ≡ made_answer (length shapes.now) (cut_up_to (view_at shapes.now anchors.now radii.now kind) (length shapes.now)) to_shapes.old to.old }
-    ensures shapes { to_shapes.new ≡ made_shapes (length shapes.now) (cut_up_to (view_at shapes.now anchors.now radii.now kind) (length shapes.now)) (cut_shape (view_at shapes.now anchors.now radii.now kind)) to_shapes.old to.old }
-    ensures anchors { to.new ≡ made_anchors (length shapes.now) (cut_up_to (view_at shapes.now anchors.now radii.now kind) (length shapes.now)) to_shapes.old to.old }
-{
-    let mut rows = [0.0f64; 3584];
-    let mut cuts = [0.0f64; 5120];
-    let mut marks = [0u32; 512];
-    let mut numbers = [0.0f64; 6144];
-    let mut flags = [0u32; 512];
-    let mut made = [0.0f64; 6144];
-    lay_drawing(
-        shapes,
-        anchors,
-        radii,
-        kind,
-        &mut rows,
-        &mut cuts,
-        &mut marks,
         &mut numbers,
         &mut flags,
     );

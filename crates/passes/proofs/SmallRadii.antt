@@ -2,6 +2,9 @@
 use mathlib.Core.Path.{◌≡◌, refl, sym, ◌∙◌}
 use mathlib.Core.Bool.{Bool, true, false, cond, true≢false}
 use Prim.Native.Nat.{ℕ}
+use Rattle.std.proofs.Common.{Option, Some, None}
+use Rattle.std.specs.Option.{option_map_or}
+use Rattle.corner.specs.declared.corner.Corner.{Corner}
 use lib.Ieee.{Float, is_nan, lt, of_bits}
 use Rattle.real.specs.Operators.{0f}
 use Rattle.real.specs.StandIns.{max, min}
@@ -44,8 +47,8 @@ min-small x y n h = go (lt x y) refl
 
 pub small_uncut : (v : View) (i : ℕ) → lt CEPS (v.radius i) ≡ false → is_cut v i ≡ false
 unfolding is_cut fitted_at own_at lt of_bits
-small_uncut v i h = go (corner_at v i).found (max_radius_beside (corner_at v i) (asked_at v (prev v.n i)) (asked_at v (next v.n i)))
+small_uncut v i h = go (corner_at v i)
   where
-    go : (b : Bool) (m : Float) → lt CEPS (cond b (min (max (v.radius i) 0f) m) 0f) ≡ false
-    go true m = min-small (max (v.radius i) 0f) m (own_number (v.radius i)) (own_small (v.radius i) h)
-    go false m = refl
+    go : (c : Option Corner) → lt CEPS (option_map_or (λ k. min (max (v.radius i) 0f) (max_radius_beside k (asked_at v (prev v.n i)) (asked_at v (next v.n i)))) c 0f) ≡ false
+    go (Some k) = min-small (max (v.radius i) 0f) (max_radius_beside k (asked_at v (prev v.n i)) (asked_at v (next v.n i))) (own_number (v.radius i)) (own_small (v.radius i) h)
+    go None = refl

@@ -2,8 +2,11 @@
 use mathlib.Core.Path.{◌≡◌, refl, sym, ◌∙◌}
 use mathlib.Core.Logic.{◌↔◌, ◌⊎◌, inl, inr}
 use mathlib.Core.Bool.{Bool, true, false, ◌&&◌}
+use Rattle.std.proofs.Common.{Option, Some, None, MatchOption, length, get_or}
+use Rattle.std.specs.List.{range_with_len, AllWithin, HoldsAt}
+use Rattle.std.proofs.lemmas.List.FromFn.{length-range_with_len, get_or-range_with_len}
 use mathlib.Core.List.{List}
-use Prim.Native.Nat.{ℕ, zero, suc, ◌+◌, ◌*◌, ◌<◌}
+use Prim.Native.Nat.{ℕ, zero, suc, ◌+◌, ◌*◌, ◌<◌, zero-le}
 use native.Mathlib.Nat.{le_refl}
 use native.Mathlib.Numerals.{add-one}
 use native.Mathlib.Omega.{arith}
@@ -17,7 +20,6 @@ use Rattle.views.proofs.Searches.{all_true, all_false, all_says, first_all, firs
 use Rattle.real.specs.Limit.{in_limit}
 use Rattle.real.proofs.Limits.{in_limit_lem}
 use Rattle.path.specs.Limit.{within_limit, anchor_in, place_in, first_bad}
-use Rattle.path.specs.declared.limit.Found.TheVariants.{At, Nothing}
 
 -- ---- the least place
 -- every place below n is good
@@ -30,10 +32,10 @@ pub record Least (good : ℕ → Bool) (n k : ℕ) : Type 0 where
   pub bad : good k ≡ false
   pub below : GoodBelow good k
 
-apart : (k : ℕ) → Nothing ≡ At k → ⊥
+apart : (k : ℕ) → None ≡ Some k → ⊥
 apart k e = let z : ◌≡◌ {A = ℕ} 0 1 = cc in omega arith
 
-same_place : (i k : ℕ) → At i ≡ At k → i ≡ k
+same_place : (i k : ℕ) → Some i ≡ Some k → i ≡ k
 same_place i k e = cc
 
 -- tests that agree below n
@@ -49,11 +51,11 @@ module _ (good fine : ℕ → Bool) (n : ℕ) (e : (k : ℕ) → k < n → good 
   }
 
 module _ (good : ℕ → Bool) where
-  least_at : (n k : ℕ) → Least good n k → first_bad good n ≡ At k
+  least_at : (n k : ℕ) → Least good n k → first_bad good n ≡ Some k
   unfolding first_bad
   least_at n k l = rw (first_at good n k l.place l.below l.bad, lt-ltb k n l.place)
 
-  none_at : (n : ℕ) → GoodBelow good n → first_bad good n ≡ Nothing
+  none_at : (n : ℕ) → GoodBelow good n → first_bad good n ≡ None
   unfolding first_bad
   none_at n h = rw (first_all good n h, le-ltb n n (le_refl n))
 
@@ -68,19 +70,42 @@ module _ (good : ℕ → Bool) where
       go true e (inl h) = inl (rw (add-one n) at (below_more _ n h e))
       go false e (inl h) = inr (n, record { place = le_refl (suc n); bad = e; below = h })
 
-  pub first_is : (n k : ℕ) → (first_bad good n ≡ At k) ↔ Least good n k
+  pub first_is : (n k : ℕ) → (first_bad good n ≡ Some k) ↔ Least good n k
   first_is n k = (go (search_to n), least_at n k)
     where
-      go : GoodBelow good n ⊎ ((k : ℕ) × Least good n k) → first_bad good n ≡ At k → Least good n k
+      go : GoodBelow good n ⊎ ((k : ℕ) × Least good n k) → first_bad good n ≡ Some k → Least good n k
       go (inl h) e = absurd (apart k (sym (none_at n h) ∙ e))
       go (inr (i, l)) e = rw (same_place i k (sym (least_at n i l) ∙ e)) at l
 
-  pub none_is : (n : ℕ) → (first_bad good n ≡ Nothing) ↔ GoodBelow good n
+  pub none_is : (n : ℕ) → (first_bad good n ≡ None) ↔ GoodBelow good n
   none_is n = (go (search_to n), none_at n)
     where
-      go : GoodBelow good n ⊎ ((k : ℕ) × Least good n k) → first_bad good n ≡ Nothing → GoodBelow good n
+      go : GoodBelow good n ⊎ ((k : ℕ) × Least good n k) → first_bad good n ≡ None → GoodBelow good n
       go (inl h) e = h
       go (inr (i, l)) e = absurd (apart i (sym e ∙ least_at n i l))
+
+-- what an iterator over the indices below n finds
+in_range : (n j : ℕ) → j < n → get_or (range_with_len 0 n) j 0 ≡ j
+in_range n j l = let e : 0 + j ≡ j = omega arith in get_or-range_with_len 0 n j 0 l ∙ e
+
+long : (n j : ℕ) → j < n → j < length (range_with_len 0 n)
+long n j l = rw (length-range_with_len 0 n) l
+
+pub found_is : (good : ℕ → Bool) (n : ℕ) (r : Option ℕ) →
+    MatchOption r (AllWithin (λ k. good k ≡ true) (range_with_len 0 n) 0 (length (range_with_len 0 n)))
+    (λ x. (good x ≡ false) × (i : ℕ) × (i < length (range_with_len 0 n)) × HoldsAt (λ y. y ≡ x) (range_with_len 0 n) i × AllWithin (λ k. good k ≡ true) (range_with_len 0 n) 0 i)
+    → r ≡ first_bad good n
+found_is good n None h = sym (none_at good n (λ j l. rw (in_range n j l) at (h j 0 zero-le (long n j l))))
+found_is good n (Some x) (bad, i, l, at, before) =
+    let below : i < n = rw (length-range_with_len 0 n) at l in
+    let place : x ≡ i = sym (at 0) ∙ in_range n i below in
+    sym
+    (least_at good n x
+    record {
+      place = rw place below;
+      bad = bad;
+      below = λ j h. let k : j < i = rw place at h in let m : j < n = omega arith in rw (in_range n j m) at (before j 0 zero-le k);
+    })
 
 -- ---- what makes a place good or bad
 module _ (anchors : List Float) (k : ℕ) where

@@ -2,6 +2,8 @@
 use mathlib.Core.Path.{◌≡◌, refl, ap}
 use mathlib.Core.Logic.{⊎_elim}
 use mathlib.Core.Bool.{Bool, true, false, ◌&&◌, cond}
+use Rattle.std.proofs.Common.{Some, None, sum_by}
+use Rattle.std.proofs.lemmas.List.Recursion.{is_sum_by}
 use mathlib.Core.List.{List, [], ◌∷◌}
 use Prim.Native.Nat.{ℕ, zero, suc, ◌+◌, ◌-◌, ◌%◌, ◌≤◌, ◌<◌}
 use native.Mathlib.Nat.{le_of_suc-le-suc, not-suc-le-zero, mod-eq_of_lt, mod_self, add-mod_right}
@@ -14,7 +16,6 @@ use borrow.Author.Tests.{leb-true, ltb-true, lt-ltb, le-ltb}
 use Rattle.views.proofs.Laws.{order}
 use Rattle.views.proofs.Bools.{both}
 use Rattle.path.specs.Shape.{count_of, total, word_at, start, has_anchor, prev, next, sized_of}
-use Rattle.path.specs.declared.shape.Sized.TheVariants.{Anchors, Wrong}
 
 -- ---- places
 total-suc : (shapes : List ℕ) (s : ℕ) → s < length shapes → start shapes (suc s) ≡ start shapes s + count_of (word_at shapes s)
@@ -41,23 +42,27 @@ has_says shapes s i h = let e = both (ltb s (length shapes)) (ltb i (count_of (w
 pub total-end : (shapes : List ℕ) (s : ℕ) → length shapes ≤ s → start shapes s ≡ total shapes
 total-end shapes s l = ap total (take_all s shapes l)
 
+-- as an iterator sums it
+pub total-sum : (shapes : List ℕ) → total shapes ≡ sum_by count_of shapes
+total-sum shapes = is_sum_by total count_of refl (λ x xs. refl) shapes
+
 -- ---- what an accepted size says
 pub record Fits (shapes : List ℕ) (most n : ℕ) : Type 0 where
   pub words : length shapes ≤ 32
   pub anchors : total shapes ≤ most
   pub count : n ≡ total shapes
 
-wrong : (n : ℕ) → Wrong ≡ Anchors n → ⊥
+wrong : (n : ℕ) → None ≡ Some n → ⊥
 wrong n e = let z : ◌≡◌ {A = ℕ} 0 1 = cc in omega arith
 
-same_count : (t n : ℕ) → Anchors t ≡ Anchors n → n ≡ t
+same_count : (t n : ℕ) → Some t ≡ Some n → n ≡ t
 same_count t n e = cc
 
-pub size_fits : (shapes : List ℕ) (most n : ℕ) → sized_of shapes most ≡ Anchors n → Fits shapes most n
+pub size_fits : (shapes : List ℕ) (most n : ℕ) → sized_of shapes most ≡ Some n → Fits shapes most n
 unfolding sized_of
 size_fits shapes most n = go (leb (length shapes) 32) (leb (total shapes) most) refl refl
   where
-    go : (a b : Bool) → leb (length shapes) 32 ≡ a → leb (total shapes) most ≡ b → cond (a && b) (Anchors (total shapes)) Wrong ≡ Anchors n → Fits shapes most n
+    go : (a b : Bool) → leb (length shapes) 32 ≡ a → leb (total shapes) most ≡ b → cond (a && b) (Some (total shapes)) None ≡ Some n → Fits shapes most n
     go true true p q e = record { words = leb-true _ _ p; anchors = leb-true _ _ q; count = same_count _ n e }
     go true false p q e = absurd (wrong n e)
     go false b p q e = absurd (wrong n e)

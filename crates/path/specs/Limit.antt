@@ -1,12 +1,10 @@
 -- The first place that breaks the limit (document 01, refusal 5): the least place of which it is so. Assumes nothing.
-use Rattle.std.specs.Prelude.{ℕ, ◌+◌, ◌*◌, Bool, ◌&&◌, cond, List, ltb, Float}
+use Rattle.std.specs.Prelude.{ℕ, ◌+◌, ◌*◌, Bool, ◌&&◌, cond, Option, Some, None, List, ltb, Float}
 use Rattle.std.specs.Float.Ieee.{le, neg}
 use Rattle.views.specs.View.{entry}
 use Rattle.views.specs.Search.{all, first_false}
 use Rattle.real.specs.Limit.{in_limit}
 use Rattle.path.specs.declared.anchor.Anchor.{Anchor}
-use Rattle.path.specs.declared.limit.Found.{Found}
-use Rattle.path.specs.declared.limit.Found.TheVariants.{At, Nothing}
 use Rattle.path.specs.Flat.{numbers}
 
 -- x is a number of magnitude at most `limit`
@@ -26,5 +24,5 @@ unfoldable pub place_in : List Float → List Float → ℕ → Bool
 place_in anchors radii k = anchor_in anchors k && in_limit (entry radii k)
 
 -- the least place below n that does not pass
-unfoldable pub first_bad : (ℕ → Bool) → ℕ → Found
-first_bad good n = let k = first_false good n in cond (ltb k n) (At k) Nothing
+unfoldable pub first_bad : (ℕ → Bool) → ℕ → Option ℕ
+first_bad good n = let k = first_false good n in cond (ltb k n) (Some k) None

@@ -1,7 +1,5 @@
 -- Shape words (document 01, 'Points, root, cubics'): counts, segments, neighbours, and the size that a path may have. Assumes nothing.
-use Rattle.std.specs.Prelude.{ℕ, zero, suc, ◌+◌, ◌-◌, ◌%◌, Bool, ◌&&◌, ◌||◌, cond, List, [], ◌∷◌, leb, ltb, eqb, length, get_or, take}
-use Rattle.path.specs.declared.shape.Sized.{Sized}
-use Rattle.path.specs.declared.shape.Sized.TheVariants.{Anchors, Wrong}
+use Rattle.std.specs.Prelude.{ℕ, zero, suc, ◌+◌, ◌-◌, ◌%◌, Bool, ◌&&◌, ◌||◌, cond, Option, Some, None, List, [], ◌∷◌, leb, ltb, eqb, length, get_or, take}
 
 -- a word: top bit closed, the rest the anchor count
 abbrev pub count_of : ℕ → ℕ
@@ -48,5 +46,5 @@ unfoldable pub next : ℕ → ℕ → ℕ
 next n i = cond (ltb (i + 1) n) (i + 1) 0
 
 -- at most 32 subpaths and `most` anchors: how many anchors, or refusal 7
-unfoldable pub sized_of : List ℕ → ℕ → Sized
-sized_of shapes most = cond (leb (length shapes) 32 && leb (total shapes) most) (Anchors (total shapes)) Wrong
+unfoldable pub sized_of : List ℕ → ℕ → Option ℕ
+sized_of shapes most = cond (leb (length shapes) 32 && leb (total shapes) most) (Some (total shapes)) None

@@ -6,7 +6,7 @@ ghost use Rattle.path.specs.Limit.{anchor_good};
 use crate::distance::short;
 use geom::{P, cross};
 
-#[derive(Clone, Copy)]
+#[derive(Clone, Copy, Debug, PartialEq)]
 pub struct Anchor {
     pub p: P,
     pub h_in: P,
@@ -28,24 +28,21 @@ impl Anchor {
     pub fn in_limit(self) -> bool
         ensures { result ≡ anchor_good self }
     {
-        if !self.p.in_limit() {
-            return false;
-        }
-        self.h_in.in_limit() && self.h_out.in_limit()
+        self.p.in_limit() && self.h_in.in_limit() && self.h_out.in_limit()
     }
 
     pub fn has_handles(self) -> bool
         ensures { result ≡ has_handles self }
     {
-        !self.h_in.same(self.p) || !self.h_out.same(self.p)
+        self.h_in != self.p || self.h_out != self.p
     }
 
     // Both handles on one line through the anchor, on either side of it.
     pub fn is_smooth(self) -> bool
         ensures { result ≡ is_smooth self }
     {
-        let a = self.h_in.sub(self.p);
-        let b = self.h_out.sub(self.p);
+        let a = self.h_in - self.p;
+        let b = self.h_out - self.p;
         if short(a) || short(b) {
             return false;
         }
@@ -56,10 +53,6 @@ impl Anchor {
     pub fn cubic(self, to: Anchor) -> [P; 4]
         ensures { result ≡ segment self to }
     {
-        let c0 = self.p;
-        let c1 = self.h_out;
-        let c2 = to.h_in;
-        let c3 = to.p;
-        [c0, c1, c2, c3]
+        [self.p, self.h_out, to.h_in, to.p]
     }
 }

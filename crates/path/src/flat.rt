@@ -13,18 +13,9 @@ pub fn anchor_at(anchors: &[f64], k: usize) -> Anchor
 {
     let b = k * 6;
     Anchor {
-        p: P {
-            x: anchors[b],
-            y: anchors[b + 1],
-        },
-        h_in: P {
-            x: anchors[b + 2],
-            y: anchors[b + 3],
-        },
-        h_out: P {
-            x: anchors[b + 4],
-            y: anchors[b + 5],
-        },
+        p: P::new(anchors[b], anchors[b + 1]),
+        h_in: P::new(anchors[b + 2], anchors[b + 3]),
+        h_out: P::new(anchors[b + 4], anchors[b + 5]),
     }
 }
 
@@ -47,7 +38,5 @@ pub fn curve_at(anchors: &[f64], k: usize, n: usize, a: usize) -> [P; 4]
     requires { (a < n) × (k + n ≤ 1024) × ((k + n) * 6 ≤ length anchors.now) }
     ensures { result ≡ curve_of anchors.now k n a }
 {
-    let from = anchor_at(anchors, k + a);
-    let to = anchor_at(anchors, k + next(n, a));
-    from.cubic(to)
+    anchor_at(anchors, k + a).cubic(anchor_at(anchors, k + next(n, a)))
 }

@@ -20,13 +20,14 @@ pub fn word(n: usize, closed: bool) -> u32
     ensures { result ≡ word_of n closed }
 {
     if closed {
-        return (n as u32) + 2147483648;
+        n as u32 + 2147483648
+    } else {
+        n as u32
     }
-    n as u32
 }
 
 // An anchor by its subpath and its index there; also the segment that starts at it.
-#[derive(Clone, Copy)]
+#[derive(Clone, Copy, Debug, PartialEq, Eq, Hash)]
 pub struct AnchorRef {
     pub subpath: usize,
     pub anchor: usize,
@@ -36,23 +37,14 @@ pub struct AnchorRef {
 pub fn has_anchor(shapes: &[u32], s: usize, i: usize) -> bool
     ensures { result ≡ has_anchor shapes.now s i }
 {
-    if shapes.len() <= s {
-        return false;
-    }
-    i < count_of(shapes[s])
+    s < shapes.len() && i < count_of(shapes[s])
 }
 
 // Whether a subpath of n anchors has a segment that starts at anchor a.
 pub fn has_segment(n: usize, closed: bool, a: usize) -> bool
     ensures { result ≡ is_segment n closed a }
 {
-    if a >= n {
-        return false;
-    }
-    if a + 1 < n {
-        return true;
-    }
-    closed && n > 1
+    a < n && (a + 1 < n || closed && n > 1)
 }
 
 // The index before i, of n, round the start.
@@ -71,23 +63,12 @@ pub fn next(n: usize, i: usize) -> usize
     if i + 1 < n { i + 1 } else { 0 }
 }
 
-// The anchors of a path that is not too large, or that it is.
-#[derive(Clone, Copy)]
-pub enum Sized {
-    Anchors(usize),
-    Wrong,
-}
-
 // The anchor count of a path of at most 32 subpaths.
 pub fn total_of(shapes: &[u32]) -> usize
     requires { length shapes.now ≤ 32 }
     ensures { result ≡ total shapes.now }
 {
-    let mut sum: usize = 0;
-    for s in 0..shapes.len() {
-        sum += count_of(shapes[s]);
-    }
-    sum
+    shapes.iter().map(|word| count_of(*word)).sum()
 }
 
 // The place of the first anchor of subpath s.
@@ -99,15 +80,12 @@ pub fn start_of(shapes: &[u32], s: usize) -> usize
 }
 
 // The anchor count of a path of at most 32 subpaths and `most` anchors. No sum wraps, whatever the words are.
-pub fn size_test(shapes: &[u32], most: usize) -> Sized
+pub fn size_test(shapes: &[u32], most: usize) -> Option<usize>
     ensures { result ≡ sized_of shapes.now most }
 {
     if shapes.len() > 32 {
-        return Sized::Wrong;
+        return None;
     }
     let n = total_of(shapes);
-    if n > most {
-        return Sized::Wrong;
-    }
-    Sized::Anchors(n)
+    if n > most { None } else { Some(n) }
 }

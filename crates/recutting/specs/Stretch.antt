@@ -2,11 +2,11 @@
 use Rattle.std.specs.Prelude.{ℕ, ◌+◌, ◌*◌, ◌≤◌, ◌<◌, ◌≡◌, ◌⊎◌, true, false, cond, List, eqb, length, get_or, Float}
 use Rattle.views.specs.View.{entry}
 use Rattle.path.specs.declared.anchor.Anchor.{Anchor}
-use Rattle.path.specs.declared.limit.Found.{Found}
-use Rattle.path.specs.declared.limit.Found.TheVariants.{At, Nothing}
+use Rattle.std.specs.Prelude.{Option}
+use Rattle.std.specs.Prelude.{Some, None}
 use Rattle.path.specs.Limit.{first_bad}
 use Rattle.path.specs.Flat.{anchor_at}
-use Rattle.corner.specs.declared.cut.CornerKind.{CornerKind}
+use Rattle.corner.specs.declared.kind.CornerKind.{CornerKind}
 use Rattle.cut.specs.declared.subpath.Sub.{Sub}
 use Rattle.cut.specs.declared.subpath.Window.{Window}
 use Rattle.cut.specs.View.{View}
@@ -79,12 +79,12 @@ pub record HoldsFlags (v : View) (sub : Sub) (w : Window) (from : ℕ) (flags : 
       → get_or flags (rolled sub.n from i) 0 ≡ flag_of (is_cut v i)
 
 -- the first place within reach that breaks the limit
-unfoldable pub places_found : View → Sub → Window → Found
+unfoldable pub places_found : View → Sub → Window → Option ℕ
 places_found v sub w = first_bad (good_near v sub w) (sub.first + sub.n)
 
 -- decided: 9 and the place, or 0, how many were recut, and what they are
 pub record Accepts (v : View) (sub : Sub) (w : Window) (p : Plan) : Type 0 where
-  pub none : places_found v sub w ≡ Nothing
+  pub none : places_found v sub w ≡ None
   pub count : p.count ≡ near_count w.reach sub.n sub.closed w.at
   pub inside : p.from < sub.n
   pub few : (i : ℕ) → i < sub.n → near w.reach sub.n sub.closed w.at i ≡ true → rolled sub.n p.from i < 15
@@ -92,7 +92,7 @@ pub record Accepts (v : View) (sub : Sub) (w : Window) (p : Plan) : Type 0 where
   pub flags : HoldsFlags v sub w p.from p.flags
 
 abbrev pub Decides : View → Sub → Window → Plan → Type 0
-Decides v sub w p = ((p.number ≡ 9) × (places_found v sub w ≡ At p.place)) ⊎ ((p.number ≡ 0) × Accepts v sub w p)
+Decides v sub w p = ((p.number ≡ 9) × (places_found v sub w ≡ Some p.place)) ⊎ ((p.number ≡ 0) × Accepts v sub w p)
 
 -- ---- an edit of one anchor: v is a subpath of the path in the lists, with this anchor and this radius at index `at`
 pub record Put (v : View) (kind : CornerKind) (sub : Sub) (at : ℕ) (a : Anchor) (radius : Float) (anchors radii : List Float) : Type 0 where

@@ -14,7 +14,7 @@ use crate::stretches::{Stretch, gather, rolled, stretch_of};
 use crate::testing::place_in;
 use corner::CornerKind;
 use cut::{Sub, Window};
-use path::{Anchor, Found};
+use path::Anchor;
 
 // The refusal's number and place, or number 0, how many places were recut, how many anchors there then are, and the places of the stretch, which starts
 // at index `from` of its subpath.
@@ -45,7 +45,7 @@ pub fn refuse(number: u32, place: usize) -> Plan
 }
 
 // The lowest place within reach that breaks the limit; a stretch that starts at index `from` holds it.
-fn first_bad(sub: Sub, w: Window, from: usize, numbers: &[f64]) -> Found
+fn first_bad(sub: Sub, w: Window, from: usize, numbers: &[f64]) -> Option<usize>
     requires n_bound { (sub.first + sub.n ≤ 1024) × (from < sub.n) × (w.at < sub.n) × (w.reach ≤ 4) }
     requires by_index { (i : ℕ) → i < sub.n → near w.reach sub.n sub.closed w.at i ≡ true → rolled sub.n from i * 12 + 12 ≤ length numbers.now }
     ensures { result ≡ first_bad (passes_near sub w (λ k. twelve_in numbers.now (rolled sub.n from (k - sub.first)))) (sub.first + sub.n) }
@@ -58,10 +58,10 @@ fn first_bad(sub: Sub, w: Window, from: usize, numbers: &[f64]) -> Found
             continue;
         }
         if !place_in(numbers, rolled(n, from, i)) {
-            return Found::At(first + i);
+            return Some(first + i);
         }
     }
-    Found::Nothing
+    None
 }
 
 // Recuts the places within reach in the stretch s, whose anchors and radii are lent, and tests them: 9. There will be `total` anchors.
@@ -78,9 +78,8 @@ pub fn plan_recut(
     requires anchors_len { (length anchors.now ≡ 90) × (length radii.now ≡ 15) }
     ensures { (result.number ≡ 0 → result.total ≡ total) × ((v : View) → Stretched v kind sub s anchors.now radii.now → Decides v sub w result) }
 {
-    let mut rows = [0.0f64; 105];
-    let mut cuts = [0.0f64; 150];
-    let mut marks = [0u32; 15];
+    let mut rows = [None; 15];
+    let mut cuts = [None; 15];
     let mut numbers = [0.0f64; 180];
     let mut flags = [0u32; 15];
     let from = s.from;
@@ -99,12 +98,11 @@ pub fn plan_recut(
         },
         &mut rows,
         &mut cuts,
-        &mut marks,
         &mut numbers,
         &mut flags,
     );
     let bad = first_bad(sub, w, from, &numbers);
-    if let Found::At(k) = bad {
+    if let Some(k) = bad {
         return refuse(refusal::RESULT, k);
     }
     Plan {

@@ -16,7 +16,7 @@ use Rattle.refusal.proofs.Verdicts.{in_order, holds_says, accepted_says, refusin
 use Rattle.path.specs.Shape.{total, word_at, start}
 use Rattle.path.specs.Limit.{place_in}
 use Rattle.call.specs.Tests.{places, drawing_limit}
-use Rattle.cut_calls.specs.CornerKinds.{kind_of, is_known}
+use Rattle.corner.specs.Kinds.{kind_of, is_known}
 use Rattle.session.specs.declared.answers.Edited.{Edited}
 use Rattle.session.specs.declared.answers.Edited.TheVariants.{Refused, Accepted}
 use Rattle.session.specs.Drawing.{Lent, drawn}

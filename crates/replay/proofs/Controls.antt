@@ -17,9 +17,9 @@ use Rattle.call.specs.Tests.{places, path_fits, drawing_fits, drawing_limit}
 use Rattle.cut.specs.View.{arrives, leaves}
 use Rattle.cut.specs.Subpath.{view_of}
 use Rattle.cut.specs.Near.{gap, near}
-use Rattle.cut.specs.Places.{corner_at, fitted_at, is_cut, trimmed_at, in_at, out_at, place_of, place_at, place_numbers}
+use Rattle.cut.specs.Places.{corner_at, fitted_at, is_cut, trimmed_at, in_at, out_at, place_of, place_at, place_numbers, cut_at}
 use Rattle.cut.specs.Recut.{reached}
-use Rattle.cut_calls.specs.CornerKinds.{kind_of, is_known}
+use Rattle.corner.specs.Kinds.{kind_of, is_known}
 use Rattle.cut_calls.specs.PlainCut.{sub_at, view_at}
 use Rattle.session.specs.Drawing.{Lent, drawn, corner_kind, view_in}
 use Rattle.cache.specs.Cache.{place_of_path, cached_flags, cached_in, cached_numbers}
@@ -70,5 +70,5 @@ refusals = refl
 
 -- the answers: anchor 1 moved (two places recut, two anchors, from place 0, its word 2), then no anchor 5; what is past them stays
 answers-told : replay_answers two 0 (0 ∷ 0 ∷ 1 ∷ 1 ∷ 0 ∷ 5 ∷ []) values (replicate 11 9) ≡ (0 ∷ 2 ∷ 2 ∷ 0 ∷ 2 ∷ []) ++ (6 ∷ 0 ∷ 0 ∷ 0 ∷ 0 ∷ []) ++ 9 ∷ []
-unfolding replay_answers replay_verdict calls_fit calls_known list_left overwrite answer_word stage built_lists build_numbers build_flags build_verdict cut_places view_at cached_numbers cached_flags call_at call_of call_words answer_words told stands subpath_of call_lists lists_after edited_lists call_answer call_verdict edit_verdict edit_answer edit_of moved resized anchor_good has_anchor lists_fit cache_fits room_in written_good recut_good edit_limit drawn drawing_fits drawing_limit path_fits places place_in anchor_in verdict first_failing tests holds judge kind_of is_known corner_kind all first_false count in_limit numbers next prev reached near gap view_in view_of sub_at sub_of places_of place_of_path place_at place_of place_numbers cached_in is_cut fitted_at corner_at arrives leaves in_at out_at trimmed_at plus minus times of_bits of_int add mul sub lt le eq anchor_numbers
+unfolding replay_answers replay_verdict calls_fit calls_known list_left overwrite answer_word stage built_lists build_numbers build_flags build_verdict cut_places view_at cached_numbers cached_flags call_at call_of call_words answer_words told stands subpath_of call_lists lists_after edited_lists call_answer call_verdict edit_verdict edit_answer edit_of moved resized anchor_good has_anchor lists_fit cache_fits room_in written_good recut_good edit_limit drawn drawing_fits drawing_limit path_fits places place_in anchor_in verdict first_failing tests holds judge kind_of is_known corner_kind all first_false count in_limit numbers next prev reached near gap view_in view_of sub_at sub_of places_of place_of_path place_at place_of place_numbers cached_in is_cut cut_at fitted_at corner_at arrives leaves in_at out_at trimmed_at plus minus times of_bits of_int add mul sub lt le eq anchor_numbers
 answers-told = refl

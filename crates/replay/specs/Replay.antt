@@ -4,7 +4,7 @@ use Rattle.refusal.specs.Order.{passes, holds, judge, Verdict, accepted, refused
 use Rattle.path.specs.Shape.{total}
 use Rattle.call.specs.Tests.{places, drawing_limit}
 use Rattle.call.specs.Answers.{list_left}
-use Rattle.cut_calls.specs.CornerKinds.{kind_of, is_known}
+use Rattle.corner.specs.Kinds.{kind_of, is_known}
 use Rattle.cache.specs.Cache.{cached_in}
 use Rattle.cache.specs.Calls.{cut_places}
 use Rattle.session.specs.Drawing.{Lent}

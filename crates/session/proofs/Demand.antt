@@ -17,11 +17,12 @@ use Rattle.path.specs.Flat.{anchor_at}
 use Rattle.path.specs.Shape.{total}
 use Rattle.call.specs.Tests.{drawing_limit}
 use Rattle.call.specs.Answers.{list_left}
-use Rattle.corner.specs.declared.cut.CornerKind.{CornerKind}
+use Rattle.corner.specs.declared.kind.CornerKind.{CornerKind}
 use Rattle.cut.specs.Subpath.{view_of}
-use Rattle.cut_calls.specs.declared.kinds.Kind.{Kind}
-use Rattle.cut_calls.specs.declared.kinds.Kind.TheVariants.{Known, Unknown}
-use Rattle.cut_calls.specs.CornerKinds.{kind_of, is_known}
+use Rattle.std.proofs.Common.{Option}
+use Rattle.corner.specs.declared.kind.CornerKind.{CornerKind}
+use Rattle.std.proofs.Common.{Some, None}
+use Rattle.corner.specs.Kinds.{kind_of, is_known}
 use Rattle.cut_calls.specs.PlainCut.{sub_at, view_at}
 use Rattle.session.specs.Drawing.{Drawing, Lent, corner_kind, view_in, drawn}
 use Rattle.cache.specs.Cache.{place_of_path, cached_numbers, cached_flags}
@@ -61,12 +62,12 @@ run kind (t ∷ ts) b m k held fine linked =
     (ap₂ ◌∷◌ s.answer r.0, r.1)
 
 -- ---- the fresh cache
-known_says : (k : Kind) → is_known k ≡ true → k ≡ Known (corner_kind k)
+known_says : (k : Option CornerKind) → is_known k ≡ true → k ≡ Some (corner_kind k)
 unfolding is_known corner_kind
-known_says (Known k) e = refl
-known_says Unknown e = absurd (true≢false (sym e))
+known_says (Some k) e = refl
+known_says None e = absurd (true≢false (sym e))
 
-cut-places : (l : Lent) (k : CornerKind) → cut_places l.shapes l.anchors l.radii (Known k)
+cut-places : (l : Lent) (k : CornerKind) → cut_places l.shapes l.anchors l.radii (Some k)
     ≡ place_of_path l.shapes (λ s. view_of (anchor_at l.anchors) (entry l.radii) (λ i. k) 128 (sub_at l.shapes s))
 unfolding cut_places view_at
 cut-places l k = refl

@@ -16,7 +16,7 @@ use Rattle.views.proofs.Bools.{and_left, and_right}
 use Rattle.views.proofs.Laws.{overwrite-same}
 use Rattle.views.proofs.Searches.{all_says, all_true}
 use Rattle.refusal.specs.Order.{accepted}
-use Rattle.path.specs.declared.limit.Found.TheVariants.{Nothing}
+use Rattle.std.proofs.Common.{None}
 use Rattle.path.specs.Shape.{total}
 use Rattle.path.proofs.Limits.{GoodBelow, none_is}
 use Rattle.cut.specs.Places.{place_numbers}
@@ -80,12 +80,12 @@ module _ (l : Lent) (kind : ℕ) (yes : built_verdict l kind ≡ accepted) where
       (eq-eqb _ _ (ap (λ (x : Lent). get_or x.flags k 0) (sym e) ∙ b.flags k kl))
 
   -- no place differs exactly where the lists are those that building would leave
-  pub opened : Storable l kind → (stale_at l kind ≡ Nothing) ↔ (built_lists l kind ≡ l)
+  pub opened : Storable l kind → (stale_at l kind ≡ None) ↔ (built_lists l kind ≡ l)
   unfolding stale_at
   opened s = (λ h. opened_built s ((none_is (place_fresh l kind) n).0 h), λ e. (none_is (place_fresh l kind) n).1 (built_opened e))
 
   -- what was opened starts the list of edits as the fresh cache does
-  pub opened-demand3 : Storable l kind → stale_at l kind ≡ Nothing → (ts : List Turn) → Linked kind l ts → Demand3 (drawn l kind) l ts
+  pub opened-demand3 : Storable l kind → stale_at l kind ≡ None → (ts : List Turn) → Linked kind l ts → Demand3 (drawn l kind) l ts
   opened-demand3 s h ts linked =
       let e = (opened s).0 h in
       subst (λ x. Linked kind x ts → Demand3 (drawn l kind) x ts) e (demand3 l kind yes ts) linked

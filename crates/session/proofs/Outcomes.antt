@@ -10,7 +10,7 @@ use Rattle.path.specs.Limit.{place_in}
 use Rattle.path.proofs.Limits.{GoodBelow, Least}
 use Rattle.call.specs.Tests.{drawing_limit}
 use Rattle.call.proofs.Openings.{places_fail, places_pass}
-use Rattle.cut_calls.specs.CornerKinds.{kind_of, is_known}
+use Rattle.corner.specs.Kinds.{kind_of, is_known}
 use Rattle.session.specs.declared.answers.Edited.TheVariants.{Refused, Accepted}
 use Rattle.session.specs.Drawing.{Lent, drawn}
 use Rattle.session.specs.Edits.{Call, Edit, edit_of}

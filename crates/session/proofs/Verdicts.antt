@@ -20,7 +20,7 @@ use Rattle.path.specs.Limit.{anchor_good, place_in}
 use Rattle.path.proofs.Limits.{GoodBelow}
 use Rattle.call.specs.Tests.{places, drawing_limit}
 use Rattle.cut.specs.declared.places.Place.{Place}
-use Rattle.cut_calls.specs.CornerKinds.{kind_of, is_known}
+use Rattle.corner.specs.Kinds.{kind_of, is_known}
 use Rattle.session.specs.Drawing.{Drawing, Lent, drawn}
 use Rattle.cache.specs.Cache.{cached_in}
 use Rattle.session.specs.Edits.{Call, Edit, edit_of, places_of}

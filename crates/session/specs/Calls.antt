@@ -6,7 +6,7 @@ use Rattle.refusal.specs.Order.{Test, passes, holds, Verdict, accepted, refused,
 use Rattle.path.specs.Shape.{total}
 use Rattle.path.specs.Flat.{anchor_numbers}
 use Rattle.call.specs.Tests.{places, drawing_fits, drawing_limit}
-use Rattle.cut_calls.specs.CornerKinds.{kind_of, is_known}
+use Rattle.corner.specs.Kinds.{kind_of, is_known}
 use Rattle.session.specs.declared.answers.Edited.{Edited}
 use Rattle.session.specs.declared.answers.Edited.TheVariants.{Refused, Accepted}
 use Rattle.session.specs.Drawing.{Lent, drawn}

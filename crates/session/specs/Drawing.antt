@@ -3,13 +3,14 @@ use Rattle.std.specs.Prelude.{ℕ, List, Float}
 use Rattle.views.specs.View.{entry}
 use Rattle.path.specs.declared.anchor.Anchor.{Anchor}
 use Rattle.path.specs.Flat.{anchor_at}
-use Rattle.corner.specs.declared.cut.CornerKind.{CornerKind}
-use Rattle.corner.specs.declared.cut.CornerKind.TheVariants.{Round}
+use Rattle.corner.specs.declared.kind.CornerKind.{CornerKind}
+use Rattle.corner.specs.declared.kind.CornerKind.TheVariants.{Round}
 use Rattle.cut.specs.View.{View}
 use Rattle.cut.specs.Subpath.{view_of}
-use Rattle.cut_calls.specs.declared.kinds.Kind.{Kind}
-use Rattle.cut_calls.specs.declared.kinds.Kind.TheVariants.{Known, Unknown}
-use Rattle.cut_calls.specs.CornerKinds.{kind_of}
+use Rattle.std.specs.Prelude.{Option}
+use Rattle.corner.specs.declared.kind.CornerKind.{CornerKind}
+use Rattle.std.specs.Prelude.{Some, None}
+use Rattle.corner.specs.Kinds.{kind_of}
 use Rattle.cut_calls.specs.PlainCut.{sub_at}
 
 -- shape words, the kind by its number (document 01's head word), and what stands at each place
@@ -20,9 +21,9 @@ pub record Drawing : Type 0 where
   pub radius : ℕ → Float
 
 -- the kind of a number; one that is not known is refused before it is read
-unfoldable pub corner_kind : Kind → CornerKind
-corner_kind (Known k) = k
-corner_kind Unknown = Round
+unfoldable pub corner_kind : Option CornerKind → CornerKind
+corner_kind (Some k) = k
+corner_kind None = Round
 
 -- subpath s of a drawing, with 128 chords
 unfoldable pub view_in : Drawing → ℕ → View

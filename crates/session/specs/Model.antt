@@ -5,7 +5,7 @@ use Rattle.real.specs.Limit.{in_limit}
 use Rattle.path.specs.Shape.{count_of, closed_of, total, word_at}
 use Rattle.call.specs.Tests.{places}
 use Rattle.cut.specs.Near.{near_count}
-use Rattle.cut_calls.specs.CornerKinds.{kind_of, is_known}
+use Rattle.corner.specs.Kinds.{kind_of, is_known}
 use Rattle.session.specs.declared.answers.Edited.{Edited}
 use Rattle.session.specs.Drawing.{Drawing, Lent}
 use Rattle.cache.specs.Cache.{cached_in}

@@ -4,7 +4,7 @@ use Rattle.std.specs.Float.{binary64}
 use Rattle.std.specs.Float.Ieee.{fits, to_bits}
 use Rattle.views.specs.View.{entry}
 use Rattle.views.specs.Search.{all}
-use Rattle.path.specs.declared.limit.Found.{Found}
+use Rattle.std.specs.Prelude.{Option}
 use Rattle.path.specs.Limit.{first_bad}
 use Rattle.path.specs.Shape.{total}
 use Rattle.cut.specs.Places.{place_numbers}
@@ -22,7 +22,7 @@ place_fresh l kind k =
     all (λ i. same_bits (entry l.numbers (k * 12 + i)) (entry (place_numbers p) i)) 12 && eqb (get_or l.flags k 0) (flag_of p.cut)
 
 -- refusal 14: the first place that differs
-unfoldable pub stale_at : Lent → ℕ → Found
+unfoldable pub stale_at : Lent → ℕ → Option ℕ
 stale_at l kind = first_bad (place_fresh l kind) (total l.shapes)
 
 -- the numbers compared are such as an f64 can be: what a list of f64 holds always is

@@ -1,5 +1,5 @@
 -- Sides of a corner, after 000's `Side`. 000's 128 chords are a parameter, `chords`. Assumes nothing.
-use Rattle.std.specs.Prelude.{ℕ, ◌+◌, ◌-◌, ◌≡◌, Bool, true, false, ◌&&◌, cond, List, ltb, Float}
+use Rattle.std.specs.Prelude.{ℕ, ◌+◌, ◌-◌, ◌≡◌, Bool, true, false, ◌&&◌, cond, Option, Some, None, List, ltb, Float}
 use Rattle.std.specs.Float.Ieee.{lt, le}
 use Rattle.views.specs.View.{tabulate}
 use Rattle.views.specs.Search.{count}
@@ -13,8 +13,6 @@ use Rattle.geom.specs.Flat.{pt}
 use Rattle.cubic.specs.Cubic.{CEPS, four, cubic_at, deriv_at}
 use Rattle.cubic.specs.Sample.{step_at, chord}
 use Rattle.side.specs.declared.side.Side.{Side}
-use Rattle.side.specs.declared.side.Direction.{Direction}
-use Rattle.side.specs.declared.side.Direction.TheVariants.{Along, Nowhere}
 use Rattle.side.specs.declared.side.At.{At}
 
 -- `is_straight_side`: both handles within 1e-9 of their ends
@@ -34,11 +32,11 @@ abbrev pub away : List P → ℕ → P
 away c k = minus (pt c k) (pt c 0)
 
 -- `direction`: towards the first of c1, c2, c3 farther than 1e-9 from c0
-unfoldable pub towards : P → Direction → Direction
-towards d else = cond (lt CEPS (len d)) (Along (unit d)) else
+unfoldable pub towards : P → Option P → Option P
+towards d else = cond (lt CEPS (len d)) (Some (unit d)) else
 
-unfoldable pub direction : Side → Direction
-direction o = towards (away o.c 1) (towards (away o.c 2) (towards (away o.c 3) Nowhere))
+unfoldable pub direction : Side → Option P
+direction o = towards (away o.c 1) (towards (away o.c 2) (towards (away o.c 3) None))
 
 -- the square of which chord k of n is the root
 unfoldable pub chord_square : List P → ℕ → ℕ → Float

@@ -1,5 +1,5 @@
 // `Side`: a side of a corner, the segment from the corner to its neighbour, as a cubic leaving the corner.
-ghost use Rattle.std.specs.Prelude.{◌≡◌, length};
+ghost use Rattle.std.specs.Prelude.{◌≡◌, length, option_map};
 ghost use Rattle.geom.specs.Point.{dist};
 ghost use Rattle.geom.specs.Flat.{pt};
 ghost use Rattle.side.specs.Side.{is_straight_side, unit, side_of, direction, length_of, long_enough, OnLine, Serves, at_line, at_length};
@@ -7,27 +7,21 @@ ghost use Rattle.side.specs.Side.{is_straight_side, unit, side_of, direction, le
 use crate::table::{arclen_table, at_curve, curve_length, first_chords};
 use geom::P;
 
-#[derive(Clone, Copy)]
+#[derive(Clone, Copy, Debug, PartialEq)]
 pub struct Side {
     pub c: [P; 4],
 }
 
-// The unit direction in which a side leaves its corner, if it has one.
-#[derive(Clone, Copy)]
-pub enum Direction {
-    Along(P),
-    Nowhere,
-}
-
-// A side's direction, and how far off the point is that it was found by: on a straight side that is the side's length.
-#[derive(Clone, Copy)]
+// The unit direction in which a side leaves its corner, and how far off the point is that it was found by: on a straight side that is the
+// side's length.
+#[derive(Clone, Copy, Debug, PartialEq)]
 pub struct Heading {
-    pub along: Direction,
+    pub along: P,
     pub far: f64,
 }
 
 // A length along a side: the parameter, the point there, and the direction in which the side runs on.
-#[derive(Clone, Copy)]
+#[derive(Clone, Copy, Debug, PartialEq)]
 pub struct At {
     pub t: f64,
     pub p: P,
@@ -38,14 +32,14 @@ pub struct At {
 pub fn is_straight_side(c: [P; 4]) -> bool
     ensures { result ≡ is_straight_side c }
 {
-    path::within(c[1].sub(c[0])) && path::within(c[2].sub(c[3]))
+    path::within(c[1] - c[0]) && path::within(c[2] - c[3])
 }
 
 // d made unit.
 pub fn unit(d: P) -> P
     ensures { result ≡ unit d }
 {
-    d.mul(1.0 / d.len())
+    d * (1.0 / d.len())
 }
 
 impl Side {
@@ -57,24 +51,19 @@ impl Side {
     }
 
     // Towards the first of c1, c2, c3 that is farther than 1e-9 from c0.
-    pub fn direction(self) -> Heading
-        ensures { result.along ≡ direction self }
+    pub fn direction(self) -> Option<Heading>
+        ensures { option_map (λ h. h.along) result ≡ direction self }
     {
-        let c = self.c;
-        for k in 1..4 {
-            let d = c[k].sub(c[0]);
+        let [start, b, c, d] = self.c;
+        for end in [b, c, d] {
+            let d = end - start;
             if path::beyond(d) {
                 let far = d.len();
-                return Heading {
-                    along: Direction::Along(d.mul(1.0 / far)),
-                    far: far,
-                };
+                let along = d * (1.0 / far);
+                return Some(Heading { along, far });
             }
         }
-        Heading {
-            along: Direction::Nowhere,
-            far: 0.0,
-        }
+        None
     }
 
     // The distance of the ends where the side is straight, which `hint` may be, else the sum of 128 chords.
@@ -136,17 +125,14 @@ fn at_line(c: [P; 4], s: f64, u: P, len: f64) -> At
     requires { len ≡ dist (pt c 0) (pt c 3) }
     ensures { result ≡ at_line c s u }
 {
-    let p = c[0].add(u.mul(s));
-    if 1e-9 < len {
-        return At {
-            t: real::clamp(s / len, 0.0, 1.0),
-            p: p,
-            dir: u,
-        };
-    }
+    let t = if 1e-9 < len {
+        real::clamp(s / len, 0.0, 1.0)
+    } else {
+        0.0
+    };
     At {
-        t: 0.0,
-        p: p,
+        t,
+        p: c[0] + u * s,
         dir: u,
     }
 }

@@ -66,7 +66,7 @@ fn put_squares(c: [P; 4], table: &mut [f64])
     let mut p = cubic::step_at(c, CHORDS, 0);
     for k in 0..CHORDS {
         let q = cubic::step_at(c, CHORDS, k + 1);
-        let d = p.sub(q);
+        let d = p - q;
         table[k + 1] = d.dot(d);
         p = q;
     }
@@ -97,27 +97,14 @@ fn param_at(table: &[f64; 129], s: f64) -> f64
 fn first_not_below(table: &[f64; 129], s: f64) -> usize
     ensures { result ≡ first_false (λ k. lt (entry table.now k) s) 129 }
 {
-    let mut k: usize = 0;
-    while k < 129 {
-        if !(table[k] < s) {
-            return k;
-        }
-        k += 1;
-    }
-    k
+    table.iter().position(|sum| !(*sum < s)).unwrap_or(129)
 }
 
 // The chord, counted from 1, that follows so many sums below s.
 fn chord_of(below: usize) -> usize
     ensures { result ≡ chord_of 128 below }
 {
-    if below < 1 {
-        return 1;
-    }
-    if CHORDS < below {
-        return CHORDS;
-    }
-    below
+    below.clamp(1, CHORDS)
 }
 
 // How much of a chord between the sums l0 and l1 lies before s.
@@ -136,12 +123,6 @@ pub fn at_curve(c: [P; 4], s: f64, u: P, table: &[f64; 129]) -> At
     let t = param_at(table, s);
     let p = cubic::cubic_at(c, t);
     let d = cubic::deriv_at(c, t);
-    if path::beyond(d) {
-        return At {
-            t: t,
-            p: p,
-            dir: unit(d),
-        };
-    }
-    At { t: t, p: p, dir: u }
+    let dir = if path::beyond(d) { unit(d) } else { u };
+    At { t, p, dir }
 }

@@ -10,8 +10,8 @@ use Rattle.cache.proofs.Outcomes.{assemble_lists, assemble-answers, assemble_sha
 use Rattle.cache.proofs.assembling.assemble.Statement.{statement}
 use Rattle.cache.proofs.assembling.assemble.Tie as tie
 
-says : (c : tie.In-Anchors) → let a = c.args in (cache_fits a.shapes.now a.numbers.now a.flags.now ≡ true) × (c.in-Anchors.places ≡ total a.shapes.now)
-says c = size_says _ _ _ _ (sym c.size_test-size.ensures ∙ c.in-Anchors.is)
+says : (c : tie.In-Some) → let a = c.args in (cache_fits a.shapes.now a.numbers.now a.flags.now ≡ true) × (c.in-Some.places ≡ total a.shapes.now)
+says c = size_says _ _ _ _ (sym c.size_test-size.ensures ∙ c.in-Some.is)
 
 returns : tie.Need-returns-in_default
 returns c =

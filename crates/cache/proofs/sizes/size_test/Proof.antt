@@ -7,8 +7,8 @@ use Rattle.cache.proofs.Fitting.{size_wrong, numbers-short, flags_short, size_go
 use Rattle.cache.proofs.sizes.size_test.Statement.{statement}
 use Rattle.cache.proofs.sizes.size_test.Tie as tie
 
-sized : (c : tie.In-Anchors) → let a = c.args in Fits a.shapes.now 512 c.in-Anchors.n
-sized c = size_fits _ _ _ (sym c.size_test-size.ensures ∙ c.in-Anchors.is)
+sized : (c : tie.In-Some) → let a = c.args in Fits a.shapes.now 512 c.in-Some.n
+sized c = size_fits _ _ _ (sym c.size_test-size.ensures ∙ c.in-Some.is)
 
 returns : tie.Need-returns-in_default
 returns c = size_wrong _ _ _ (sym c.size_test-size.ensures ∙ c.in_default.is)

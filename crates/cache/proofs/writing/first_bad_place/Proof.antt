@@ -7,7 +7,7 @@ use borrow.Author.Count.{below_none, below_more}
 use native.Mathlib.Omega.{arith}
 use Rattle.views.specs.View.{entry}
 use Rattle.real.specs.Limit.{in_limit}
-use Rattle.path.specs.declared.limit.Found.TheVariants.{Nothing}
+use Rattle.std.proofs.Common.{None}
 use Rattle.path.proofs.Limits.{GoodBelow, first_is, none_is}
 use Rattle.cache.specs.Tests.{twelve_in}
 use Rattle.cache.proofs.Outcomes.{twelve_in_lem, twelve_out}
@@ -16,14 +16,14 @@ use Rattle.cache.proofs.writing.first_bad_place.Tie as tie
 
 -- the numbers of place k below number i are in limit
 abbrev invariant-loop : tie.invariant-loop-i
-invariant-loop numbers n found₀ k i₀ found i = (i ≤ 12) × (found ≡ Nothing) × (k < n) × ((q : ℕ) → q < i → in_limit (entry numbers (k * 12 + q)) ≡ true)
+invariant-loop numbers n found₀ k i₀ found i = (i ≤ 12) × (found ≡ None) × (k < n) × ((q : ℕ) → q < i → in_limit (entry numbers (k * 12 + q)) ≡ true)
 
 abbrev decreases-loop : tie.decreases-loop-i
 decreases-loop numbers n found₀ k i₀ found i = 12 - i
 
 -- the places below k are good
 abbrev invariant-places : tie.invariant-places
-invariant-places numbers n found₀ k₀ found k = (k ≤ n) × (found ≡ Nothing) × GoodBelow (twelve_in numbers) k
+invariant-places numbers n found₀ k₀ found k = (k ≤ n) × (found ≡ None) × GoodBelow (twelve_in numbers) k
 
 abbrev decreases-places : tie.decreases-places
 decreases-places numbers n found₀ k₀ found k = n - k

@@ -1,4 +1,5 @@
 -- `cache::writing::write_cache` meets its contract: each return cites what the limit test found. Assumes nothing.
+use lib.Ieee.{nan}
 use mathlib.Core.Path.{◌≡◌, sym, ap, ◌∙◌}
 use borrow.Author.Rules.{rules}
 use lib.ListN.{length}
@@ -15,9 +16,9 @@ use Rattle.cache.proofs.writing.write_cache.Tie as tie
 found : (c : tie.After-first_bad_place-bad) → let a = c.args in c.first_bad_place-bad.result ≡ first_bad (twelve_in a.laid.now) (total a.shapes.now)
 found c = c.first_bad_place-bad.ensures ∙ ap (first_bad (twelve_in c.args.laid.now)) c.total_of-n.ensures
 
-returns : tie.Need-returns-in-At
+returns : tie.Need-returns-in-Some
 returns c =
-    let v = cache_bad _ _ _ ((first_is _ _ _).0 (sym (found c.before) ∙ c.in-At.is)) in
+    let v = cache_bad _ _ _ ((first_is _ _ _).0 (sym (found c.before) ∙ c.in-Some.is)) in
     (outline-refused _ _ v, (list_kept _ _ _ v, list_kept _ _ _ v))
 
 returns-2 : tie.Need-returns
@@ -25,7 +26,7 @@ returns-2 c =
     let a = c.args in
     let n = c.total_of-n.ensures in
     let v = cache_good _ _ ((none_is _ _).0 (sym (found c.before.before.before.before.before.before.before.before.before) ∙ c.in_default.is)) in
-    (ap (Accepted (length a.shapes.now)) n ∙ outline_accepted _ _ v, (c.copy.ensures ∙ rw n (list_written _ _ _ v), c.copy_words.ensures ∙ rw n (list_written _ _ _ v)))
+    (ap (Accepted (length a.shapes.now)) n ∙ outline_accepted _ _ v, (c.copy.ensures nan ∙ rw n (list_written _ _ _ v), c.copy-2.ensures 0 ∙ rw n (list_written _ _ _ v)))
 
 pub write_cache_spec : {M : Type 1} → statement M
 write_cache_spec =

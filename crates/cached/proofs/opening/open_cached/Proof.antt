@@ -14,7 +14,7 @@ returns c =
 returns-2 : tie.Need-returns
 returns-2 c =
     let a = c.args in
-    c.open_drawing.ensures ∙ cached_drawing (lent a.shapes.now a.anchors.now a.radii.now a.numbers.now a.flags.now) _ (sym c.size_test-size.ensures ∙ c.in-Anchors.is)
+    c.open_drawing.ensures ∙ cached_drawing (lent a.shapes.now a.anchors.now a.radii.now a.numbers.now a.flags.now) _ (sym c.size_test-size.ensures ∙ c.in-Some.is)
 
 pub open_cached_spec : {M : Type 1} → statement M
 open_cached_spec =

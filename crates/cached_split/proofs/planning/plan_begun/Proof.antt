@@ -10,7 +10,7 @@ use borrow.Author.Rules.{rules}
 use borrow.Author.Tests.{lt-ltb}
 use Rattle.views.proofs.Bools.{or_left, or_right}
 use Rattle.path.specs.Shape.{count_of, closed_of, word_at, start, next}
-use Rattle.path.specs.declared.limit.Found.TheVariants.{Nothing}
+use Rattle.std.proofs.Common.{None}
 use Rattle.path.specs.Flat.{anchor_at}
 use Rattle.cut_calls.specs.PlainCut.{sub_at}
 use Rattle.session.specs.Drawing.{Lent, drawn, view_in}
@@ -113,13 +113,13 @@ found c =
     let m = named c.before.before in
     rw (← m.from, ← m.to, ← c.halved-h.ensures) (c.first_put-bad.ensures c.args.d.n d.from d.to)
 
-returns : tie.Need-returns-in-At
+returns : tie.Need-returns-in-Some
 returns c =
     let s = c.before.before.before.before.before.before.before.before.before.before.before.before.before.before in
     let n = c.refuse.ensures.0 in
-    inl ((λ z. omega arith), split-put_bad (lists s) c.args.d.kind c.args.at.subpath c.args.at.anchor c.args.t c.args.d.n c.args.d.way c.requires.ready c.requires.segment c.requires.few _ (sym (found c.before.before) ∙ c.in-At.is) ∙ sym (rw (c.refuse.ensures.0, c.refuse.ensures.1)))
+    inl ((λ z. omega arith), split-put_bad (lists s) c.args.d.kind c.args.at.subpath c.args.at.anchor c.args.t c.args.d.n c.args.d.way c.requires.ready c.requires.segment c.requires.few _ (sym (found c.before.before) ∙ c.in-Some.is) ∙ sym (rw (c.refuse.ensures.0, c.refuse.ensures.1)))
 
-none : (c : tie.In_default) → let a = c.args in puts_found (anchor_at a.anchors.now) (segment_start a.shapes.now a.at.subpath a.at.anchor) (segment_end a.shapes.now a.at.subpath a.at.anchor) a.t (a.d.n + 1) ≡ Nothing
+none : (c : tie.In_default) → let a = c.args in puts_found (anchor_at a.anchors.now) (segment_start a.shapes.now a.at.subpath a.at.anchor) (segment_end a.shapes.now a.at.subpath a.at.anchor) a.t (a.d.n + 1) ≡ None
 none c = sym (found c.before) ∙ c.in_default.is
 
 plan-halves-requires : tie.Need-plan_halves-plan-requires

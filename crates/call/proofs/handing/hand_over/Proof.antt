@@ -1,4 +1,5 @@
 -- `call::handing::hand_over` meets its contract: each return cites what the tests before it found. Assumes nothing.
+use lib.Ieee.{nan}
 use mathlib.Core.Path.{sym, ap, ◌∙◌}
 use native.Mathlib.Omega.{arith}
 use borrow.Author.Rules.{rules}
@@ -14,11 +15,11 @@ use Rattle.call.proofs.handing.hand_over.Tie as tie
 good : (c : tie.In_default) → let a = c.args in GoodBelow (anchor_in a.made.now) (total a.words.now)
 good c = (none_is _ _).0 (sym c.first_bad_anchor-bad.ensures ∙ c.in_default.is)
 
-returns : tie.Need-returns-in-At
+returns : tie.Need-returns-in-Some
 returns c =
     let a = c.args in
     let p = c.before in
-    let h = handed-refused a.words.now a.made.now a.to_shapes.now a.to.now 9 _ (handed_bad _ _ _ _ _ ((first_is _ _ _).0 (sym p.first_bad_anchor-bad.ensures ∙ c.in-At.is))) in
+    let h = handed-refused a.words.now a.made.now a.to_shapes.now a.to.now 9 _ (handed_bad _ _ _ _ _ ((first_is _ _ _).0 (sym p.first_bad_anchor-bad.ensures ∙ c.in-Some.is))) in
     (h.0, (h.1, h.2))
 
 returns-2 : tie.Need-returns-then-to_shapes-words
@@ -42,7 +43,7 @@ returns-4 c =
     let a = c.args in
     let n = c.total_of-count.ensures in
     let h = handed_accepted a.words.now a.made.now a.to_shapes.now a.to.now (handed-all _ _ _ _ (good g) (room _ _ _ _ (omega arith) (omega arith))) in
-    (ap (Accepted (length a.words.now)) n ∙ h.0, (c.copy_words.ensures ∙ h.1, c.copy.ensures ∙ rw n h.2))
+    (ap (Accepted (length a.words.now)) n ∙ h.0, (c.copy.ensures 0 ∙ h.1, c.copy-2.ensures nan ∙ rw n h.2))
 
 pub hand_over_spec : {M : Type 1} → statement M
 hand_over_spec =

@@ -8,8 +8,8 @@ use Rattle.call.proofs.Openings.{drawing_wrong, drawing-short, drawing_radii, dr
 use Rattle.call.proofs.opening.open_drawing.Statement.{statement}
 use Rattle.call.proofs.opening.open_drawing.Tie as tie
 
-sized : (c : tie.In-Anchors) → let a = c.args in Fits a.shapes.now 512 c.in-Anchors.n
-sized c = size_fits _ _ _ (sym c.size_test-size.ensures ∙ c.in-Anchors.is)
+sized : (c : tie.In-Some) → let a = c.args in Fits a.shapes.now 512 c.in-Some.n
+sized c = size_fits _ _ _ (sym c.size_test-size.ensures ∙ c.in-Some.is)
 
 returns : tie.Need-returns-in_default
 returns c = drawing_wrong _ _ _ (sym c.size_test-size.ensures ∙ c.in_default.is)
@@ -20,10 +20,10 @@ returns-2 c = drawing-short _ _ _ _ (sized c.before) (omega arith)
 returns-3 : tie.Need-returns-then-radii-n
 returns-3 c = drawing_radii _ _ _ _ (sized c.before.before) (omega arith) (omega arith)
 
-returns-4 : tie.Need-returns-in-At
+returns-4 : tie.Need-returns-in-Some-bad
 returns-4 c =
     let p = c.before in
-    drawing_bad _ _ _ _ (sized p.before.before.before) (omega arith) (omega arith) _ ((first_is _ _ _).0 (sym p.first_bad_place-bad.ensures ∙ c.in-At.is))
+    drawing_bad _ _ _ _ (sized p.before.before.before) (omega arith) (omega arith) _ ((first_is _ _ _).0 (sym p.first_bad_place-bad.ensures ∙ c.in-Some-bad.is))
 
 returns-5 : tie.Need-returns
 returns-5 c =

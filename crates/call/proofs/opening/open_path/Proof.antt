@@ -8,8 +8,8 @@ use Rattle.call.proofs.Openings.{path_wrong, path_short, path_bad, path_good}
 use Rattle.call.proofs.opening.open_path.Statement.{statement}
 use Rattle.call.proofs.opening.open_path.Tie as tie
 
-sized : (c : tie.In-Anchors) → let a = c.args in Fits a.shapes.now a.most c.in-Anchors.n
-sized c = size_fits _ _ _ (sym c.size_test-size.ensures ∙ c.in-Anchors.is)
+sized : (c : tie.In-Some) → let a = c.args in Fits a.shapes.now a.most c.in-Some.n
+sized c = size_fits _ _ _ (sym c.size_test-size.ensures ∙ c.in-Some.is)
 
 returns : tie.Need-returns-in_default
 returns c = path_wrong _ _ _ (sym c.size_test-size.ensures ∙ c.in_default.is)
@@ -17,10 +17,10 @@ returns c = path_wrong _ _ _ (sym c.size_test-size.ensures ∙ c.in_default.is)
 returns-2 : tie.Need-returns-then-anchors-n
 returns-2 c = path_short _ _ _ _ (sized c.before) (omega arith)
 
-returns-3 : tie.Need-returns-in-At
+returns-3 : tie.Need-returns-in-Some-bad
 returns-3 c =
     let p = c.before in
-    path_bad _ _ _ _ (sized p.before.before) (omega arith) _ ((first_is _ _ _).0 (sym p.first_bad_anchor-bad.ensures ∙ c.in-At.is))
+    path_bad _ _ _ _ (sized p.before.before) (omega arith) _ ((first_is _ _ _).0 (sym p.first_bad_anchor-bad.ensures ∙ c.in-Some-bad.is))
 
 returns-4 : tie.Need-returns
 returns-4 c =
