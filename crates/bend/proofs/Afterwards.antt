@@ -21,7 +21,7 @@ use Rattle.path.proofs.Places.{numbers_at, length-put, put_out, at_put, at_put_o
 use Rattle.call.specs.Tests.{outline_in, outline_limit}
 use Rattle.call.proofs.Openings.{places_fail, places_pass}
 use Rattle.transform.proofs.Laid.{listed_table}
-use Rattle.path.specs.declared.limit.Found.TheVariants.{At, Nothing}
+use Rattle.std.proofs.Common.{Some, None}
 use Rattle.bend.specs.Edits.{last_verdict, first_out}
 
 -- ---- n anchors f 0, f 1, ..
@@ -93,30 +93,30 @@ module _ (xs : List Float) (n : ℕ) (f : ℕ → Anchor) (good : GoodBelow (anc
     j_bad : anchor_good b ≡ false → (i < j → anchor_good a ≡ true) → last_verdict (tabulate n f) ≡ refused 9 j
     j_bad e wa = made_bad n f j j-inside (ap anchor_good new-j ∙ e) (λ q l. within_below j wa (λ h. absurd (omega arith)) q l (omega arith))
 
-    different : (place : ℕ) → Nothing ≡ At place → ⊥
+    different : (place : ℕ) → None ≡ Some place → ⊥
     different place e = let z : ◌≡◌ {A = ℕ} 0 1 = cc in omega arith
 
-    same_place : (k place : ℕ) → At k ≡ At place → k ≡ place
+    same_place : (k place : ℕ) → Some k ≡ Some place → k ≡ place
     same_place k place e = cc
 
-    pub two_bad : (place : ℕ) → first_out i a j b ≡ At place → last_verdict (tabulate n f) ≡ refused 9 place
+    pub two_bad : (place : ℕ) → first_out i a j b ≡ Some place → last_verdict (tabulate n f) ≡ refused 9 place
     unfolding first_out
     two_bad place = go (anchor_good a) (anchor_good b) (ltb i j) refl refl refl
       where
         go : (x y z : Bool) → anchor_good a ≡ x → anchor_good b ≡ y → ltb i j ≡ z
-            → cond x (cond y Nothing (At j)) (cond z (At i) (cond y (At i) (At j))) ≡ At place → last_verdict (tabulate n f) ≡ refused 9 place
+            → cond x (cond y None (Some j)) (cond z (Some i) (cond y (Some i) (Some j))) ≡ Some place → last_verdict (tabulate n f) ≡ refused 9 place
         go true true z ea eb el e = absurd (different place e)
         go true false z ea eb el e = j_bad eb (λ h. ea) ∙ ap (refused 9) (same_place j place e)
         go false y true ea eb el e = let l = ltb-true i j el in i_bad ea (λ h. absurd (omega arith)) ∙ ap (refused 9) (same_place i place e)
         go false true false ea eb el e = i_bad ea (λ h. eb) ∙ ap (refused 9) (same_place i place e)
         go false false false ea eb el e = let l = ltb-false i j el in j_bad eb (λ h. absurd (omega arith)) ∙ ap (refused 9) (same_place j place e)
 
-    pub two_good : first_out i a j b ≡ Nothing → last_verdict (tabulate n f) ≡ accepted
+    pub two_good : first_out i a j b ≡ None → last_verdict (tabulate n f) ≡ accepted
     unfolding first_out
     two_good = go (anchor_good a) (anchor_good b) (ltb i j) refl refl
       where
         go : (x y z : Bool) → anchor_good a ≡ x → anchor_good b ≡ y
-            → cond x (cond y Nothing (At j)) (cond z (At i) (cond y (At i) (At j))) ≡ Nothing → last_verdict (tabulate n f) ≡ accepted
+            → cond x (cond y None (Some j)) (cond z (Some i) (cond y (Some i) (Some j))) ≡ None → last_verdict (tabulate n f) ≡ accepted
         go true true z ea eb e = made_good n f (λ q l. within_below n (λ h. ea) (λ h. eb) q l l)
         go true false z ea eb e = absurd (different j (sym e))
         go false y true ea eb e = absurd (different i (sym e))

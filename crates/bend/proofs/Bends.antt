@@ -11,10 +11,17 @@ use lib.Ieee.{Float}
 use borrow.Author.Tests.{ltb-true, eqb-true, lt-ltb, le-ltb, eq-eqb, ne_eqb}
 use Rattle.views.proofs.Laws.{order}
 use Rattle.geom.specs.declared.point.P.{P}
-use Rattle.path.specs.Shape.{count_of, closed_of, word_at, start, is_segment, next}
-use Rattle.path.specs.Flat.{anchor_at}
+use Rattle.path.proofs.Shapes.{total_in}
+use Rattle.path.specs.Shape.{count_of, closed_of, total, word_at, start, is_segment, next}
+use Rattle.path.specs.Flat.{anchor_at, put_anchor, listed}
 use Rattle.bend.specs.Bent.{bent_out, bent_in}
-use Rattle.bend.specs.Edits.{has_bend, bend_at}
+use Rattle.path.specs.Limit.{anchor_in}
+use Rattle.path.proofs.Limits.{GoodBelow}
+use Rattle.refusal.specs.Order.{accepted, refused}
+use Rattle.views.specs.View.{tabulate}
+use Rattle.std.proofs.Common.{Some, None, ◌*◌}
+use Rattle.bend.specs.Edits.{has_bend, bend_at, first_out, last_verdict}
+use Rattle.bend.proofs.Afterwards.{two_bad, two_good, two_put}
 
 -- ---- a segment's start is an anchor, and the next one is another
 segment-inside : (n : ℕ) (closed : Bool) (a : ℕ) → is_segment n closed a ≡ true → a < n
@@ -28,9 +35,9 @@ segment-inside n closed a = go (ltb (a + 1) n) closed (ltb 1 n) (eqb (a + 1) n) 
     go false true false r e f h = absurd (true≢false (sym h))
     go false false q r e f h = absurd (true≢false (sym h))
 
-pub next-inside : (n a : ℕ) → a < n → next n a < n
+pub next_inside : (n a : ℕ) → a < n → next n a < n
 unfolding next
-next-inside n a h = ⊎_elim (λ l. rw (le-ltb (a + 1) n l) (omega arith)) (λ l. rw (lt-ltb (a + 1) n l) l) (order n (a + 1))
+next_inside n a h = ⊎_elim (λ l. rw (le-ltb (a + 1) n l) (omega arith)) (λ l. rw (lt-ltb (a + 1) n l) l) (order n (a + 1))
 
 pub next_another : (n a : ℕ) → a < n → 2 ≤ n → a ≡ next n a → ⊥
 unfolding next
@@ -50,6 +57,15 @@ module _ (shapes : List ℕ) (s a : ℕ) where
       go true false e f h = (ltb-true _ _ e, λ l. segment-inside n (closed_of (word_at shapes s)) a h)
       go false q e f h = absurd (true≢false (sym h))
 
+  pub bend_subpath : has_bend shapes s a ≡ true → s < length shapes
+  bend_subpath h = (has_bend_says h).0
+
+  pub bend_places : has_bend shapes s a ≡ true → start shapes s + count_of (word_at shapes s) ≤ total shapes
+  bend_places h = total_in shapes s (has_bend_says h).0
+
+  pub bend_index : has_bend shapes s a ≡ true → 2 ≤ count_of (word_at shapes s) → a < count_of (word_at shapes s)
+  bend_index h = (has_bend_says h).1
+
   module _ (anchors : List Float) (v : P) (keep : Bool) where
     pub nothing-bent : n < 2 → (q : ℕ) → bend_at shapes anchors s a v keep q ≡ anchor_at anchors q
     unfolding bend_at
@@ -68,3 +84,35 @@ module _ (shapes : List ℕ) (s a : ℕ) where
     unfolding bend_at
     end_anew h ne =
         rw (lt-ltb 1 n (omega arith), ne_eqb (start shapes s + next n a) (start shapes s + a) ne, eq-eqb (start shapes s + next n a) (start shapes s + next n a) refl)
+
+    -- ---- two anchors anew: which place breaks the limit, or that none does
+    module _ (good : GoodBelow (anchor_in anchors) (total shapes)) (long : total shapes * 6 ≤ length anchors) (there : has_bend shapes s a ≡ true) (many : 2 ≤ n) where
+      abbrev i : ℕ
+      i = start shapes s + a
+
+      abbrev j : ℕ
+      j = start shapes s + next n a
+
+      index : a < n
+      index = bend_index there many
+
+      apart : i ≡ j → ⊥
+      apart e = next_another n a index many (omega arith)
+
+      i-inside : i < total shapes
+      i-inside = let l = index in omega (arith, bend_places there)
+
+      j-inside : j < total shapes
+      j-inside = omega (arith, bend_places there, next_inside n a index)
+
+      pub bent_bad : (place : ℕ) → first_out i (bent_out v keep (anchor_at anchors i)) j (bent_in v keep (anchor_at anchors j)) ≡ Some place
+          → last_verdict (tabulate (total shapes) (bend_at shapes anchors s a v keep)) ≡ refused 9 place
+      bent_bad = two_bad anchors (total shapes) _ good long i j _ _ apart i-inside j-inside (start_anew many) (end_anew many (λ e. apart (sym e))) others_kept
+
+      pub bent_good : first_out i (bent_out v keep (anchor_at anchors i)) j (bent_in v keep (anchor_at anchors j)) ≡ None
+          → last_verdict (tabulate (total shapes) (bend_at shapes anchors s a v keep)) ≡ accepted
+      bent_good = two_good anchors (total shapes) _ good long i j _ _ apart i-inside j-inside (start_anew many) (end_anew many (λ e. apart (sym e))) others_kept
+
+      pub bent_put : put_anchor (put_anchor anchors i (bent_out v keep (anchor_at anchors i))) j (bent_in v keep (anchor_at anchors j))
+          ≡ listed (tabulate (total shapes) (bend_at shapes anchors s a v keep)) anchors
+      bent_put = two_put anchors (total shapes) _ good long i j _ _ apart i-inside j-inside (start_anew many) (end_anew many (λ e. apart (sym e))) others_kept

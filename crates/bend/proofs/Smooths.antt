@@ -11,7 +11,8 @@ use Rattle.path.specs.declared.anchor.Anchor.{Anchor}
 use Rattle.path.specs.Shape.{count_of, closed_of, total, word_at, start}
 use Rattle.path.specs.Flat.{anchor_at}
 use Rattle.path.proofs.Shapes.{total_in}
-use Rattle.bend.specs.declared.neighbours.Beside.{Beside}
+use Rattle.std.proofs.Common.{Option}
+use Rattle.geom.specs.declared.point.P.{P}
 use Rattle.bend.specs.Smoothed.{point_before, point_after, smoothed, smoothed_at}
 use Rattle.bend.specs.Edits.{smooth_at}
 
@@ -34,7 +35,7 @@ module _ (shapes : List ℕ) (s k : ℕ) where
     put_anew h = rw (lt-ltb 1 (count_of (word_at shapes s)) (omega arith), eq-eqb (start shapes s + k) (start shapes s + k) refl)
 
     -- what the calls made it of
-    pub made_of : (first n : ℕ) (closed : Bool) (before after : Beside) (o a : Anchor)
+    pub made_of : (first n : ℕ) (closed : Bool) (before after : Option P) (o a : Anchor)
         → first ≡ start shapes s → n ≡ count_of (word_at shapes s) → closed ≡ closed_of (word_at shapes s)
         → before ≡ point_before anchors first n closed k → after ≡ point_after anchors first n closed k → o ≡ anchor_at anchors (first + k) → a ≡ smoothed before o after
         → a ≡ smoothed_at anchors (start shapes s) (count_of (word_at shapes s)) (closed_of (word_at shapes s)) k

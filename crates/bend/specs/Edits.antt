@@ -1,13 +1,11 @@
 -- What the edits of handles answer, and what they leave of the path lent to them: refusals 7, 5, 6, 9. Assumes nothing.
-use Rattle.std.specs.Prelude.{ℕ, ◌+◌, Bool, true, ◌&&◌, cond, List, ltb, eqb, length, Float}
+use Rattle.std.specs.Prelude.{ℕ, ◌+◌, Bool, true, ◌&&◌, cond, List, ltb, eqb, length, Float, Option, Some, None}
 use Rattle.views.specs.View.{tabulate}
 use Rattle.real.specs.Limit.{in_limit}
 use Rattle.geom.specs.declared.point.P.{P}
 use Rattle.geom.specs.Point.{point_in}
 use Rattle.refusal.specs.Order.{passes, holds, judge, Verdict, accepted, verdict, tests}
 use Rattle.path.specs.declared.anchor.Anchor.{Anchor}
-use Rattle.path.specs.declared.limit.Found.{Found}
-use Rattle.path.specs.declared.limit.Found.TheVariants as found
 use Rattle.path.specs.Shape.{count_of, closed_of, total, word_at, start, has_anchor, is_segment, next}
 use Rattle.path.specs.Flat.{anchor_at}
 use Rattle.path.specs.Limit.{anchor_good}
@@ -73,7 +71,7 @@ bend_left shapes anchors s a t delta keep =
     anchors_left (bend_verdict shapes anchors s a t delta keep) (bend_path shapes anchors s a (pull t delta) keep) anchors
 
 -- the lower of two places whose new anchors are beyond the limit
-unfoldable pub first_out : ℕ → Anchor → ℕ → Anchor → Found
+unfoldable pub first_out : ℕ → Anchor → ℕ → Anchor → Option ℕ
 first_out i a j b =
-    cond (anchor_good a) (cond (anchor_good b) found.Nothing (found.At j))
-    (cond (ltb i j) (found.At i) (cond (anchor_good b) (found.At i) (found.At j)))
+    cond (anchor_good a) (cond (anchor_good b) None (Some j))
+    (cond (ltb i j) (Some i) (cond (anchor_good b) (Some i) (Some j)))

@@ -12,15 +12,13 @@ use crate::places::has_bend;
 use crate::smoothing::smoothed;
 use call::{Opened, Outline};
 use geom::P;
-use path::Found;
 
 // Smooth handles for anchor k of subpath s, along its neighbours.
 pub fn auto_smooth(shapes: &[u32], anchors: &mut [f64], s: usize, k: usize) -> Outline
     ensures answer { result ≡ smooth_answer shapes.now anchors.old s k }
     ensures anchors { anchors.new ≡ smooth_left shapes.now anchors.old s k }
 {
-    let opened = call::open_path(512, shapes, anchors);
-    match opened {
+    match call::open_path(512, shapes, anchors) {
         Opened::Refused(n, place) => Outline::Refused(n, place),
         Opened::Anchors(count) => {
             if !path::has_anchor(shapes, s, k) {
@@ -32,6 +30,7 @@ pub fn auto_smooth(shapes: &[u32], anchors: &mut [f64], s: usize, k: usize) -> O
 }
 
 // The same of an anchor that there is, in a path that passed its tests.
+#[tactic(auto, using(path::proofs::Shapes::total_in))]
 fn smooth_known(shapes: &[u32], anchors: &mut [f64], s: usize, k: usize, count: usize) -> Outline
     requires { (length shapes.now ≤ 32) × (total shapes.now ≤ 512) × (total shapes.now * 6 ≤ length anchors.old) × (count ≡ total shapes.now) × (s < length shapes.now) × (k < count_of (word_at shapes.now s)) × ((q : ℕ) → q < total shapes.now → anchor_in anchors.old q ≡ true) }
     ensures answer { result ≡ outline_answer (last_verdict (smooth_path shapes.now anchors.old s k)) (length shapes.now) (total shapes.now) }
@@ -68,14 +67,10 @@ pub fn bend_segment(
     ensures answer { result ≡ bend_answer shapes.now anchors.old s a t delta keep }
     ensures anchors { anchors.new ≡ bend_left shapes.now anchors.old s a t delta keep }
 {
-    let opened = call::open_path(512, shapes, anchors);
-    match opened {
+    match call::open_path(512, shapes, anchors) {
         Opened::Refused(n, place) => Outline::Refused(n, place),
         Opened::Anchors(count) => {
-            if !real::in_limit(t) {
-                return Outline::Refused(refusal::ARGUMENTS, count);
-            }
-            if !delta.in_limit() {
+            if !real::in_limit(t) || !delta.in_limit() {
                 return Outline::Refused(refusal::ARGUMENTS, count);
             }
             if !has_bend(shapes, s, a) {
@@ -87,6 +82,7 @@ pub fn bend_segment(
 }
 
 // The same of a segment that there is, in a path that passed its tests, its inner control points moving by v.
+#[tactic(auto, using(crate::proofs::Bends::bend_subpath, crate::proofs::Bends::bend_places, crate::proofs::Bends::bend_index, crate::proofs::Bends::next_inside))]
 fn bend_known(
     shapes: &[u32],
     anchors: &mut [f64],
@@ -109,8 +105,7 @@ fn bend_known(
     let j = first + path::next(n, a);
     let from = bent_out(v, keep, path::anchor_at(anchors, i));
     let to = bent_in(v, keep, path::anchor_at(anchors, j));
-    let out = first_out(i, from, j, to);
-    if let Found::At(place) = out {
+    if let Some(place) = first_out(i, from, j, to) {
         return Outline::Refused(refusal::RESULT, place);
     }
     path::put_anchor(anchors, i, from);

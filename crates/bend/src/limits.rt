@@ -2,23 +2,16 @@
 ghost use Rattle.std.specs.Prelude.{◌≡◌};
 ghost use Rattle.bend.specs.Edits.{first_out};
 
-use path::{Anchor, Found};
+use path::Anchor;
 
 // The lower of two places whose new anchors break the limit.
-pub fn first_out(i: usize, a: Anchor, j: usize, b: Anchor) -> Found
+pub fn first_out(i: usize, a: Anchor, j: usize, b: Anchor) -> Option<usize>
     ensures { result ≡ first_out i a j b }
 {
-    if a.in_limit() {
-        if b.in_limit() {
-            return Found::Nothing;
-        }
-        return Found::At(j);
+    match (a.in_limit(), b.in_limit()) {
+        (true, true) => None,
+        (true, false) => Some(j),
+        (false, true) => Some(i),
+        (false, false) => Some(i.min(j)),
     }
-    if i < j {
-        return Found::At(i);
-    }
-    if b.in_limit() {
-        return Found::At(i);
-    }
-    Found::At(j)
 }

@@ -4,45 +4,24 @@ ghost use Rattle.bend.specs.Smoothed.{point_before, point_after};
 
 use geom::P;
 
-// A neighbour's point, or that there is none past an open end.
-#[derive(Clone, Copy)]
-pub enum Beside {
-    At(P),
-    Nothing,
-}
-
-// The point before anchor k of n, the first of which is at place `first`.
-pub fn point_before(anchors: &[f64], first: usize, n: usize, closed: bool, k: usize) -> Beside
+// The point before anchor k of n, the first of which is at place `first`: none before an open end.
+pub fn point_before(anchors: &[f64], first: usize, n: usize, closed: bool, k: usize) -> Option<P>
     requires { (k < n) × ((first + n) * 6 ≤ length anchors.now) }
     ensures { result ≡ point_before anchors.now first n closed k }
 {
-    if 0 < k {
-        let a = path::anchor_at(anchors, first + k - 1);
-        let p = a.p;
-        return Beside::At(p);
+    if k == 0 && !closed {
+        return None;
     }
-    if closed {
-        let a = path::anchor_at(anchors, first + n - 1);
-        let p = a.p;
-        return Beside::At(p);
-    }
-    Beside::Nothing
+    Some(path::anchor_at(anchors, first + path::prev(n, k)).p)
 }
 
-// The point after it.
-pub fn point_after(anchors: &[f64], first: usize, n: usize, closed: bool, k: usize) -> Beside
+// The point after it: none after an open end.
+pub fn point_after(anchors: &[f64], first: usize, n: usize, closed: bool, k: usize) -> Option<P>
     requires { (k < n) × ((first + n) * 6 ≤ length anchors.now) }
     ensures { result ≡ point_after anchors.now first n closed k }
 {
-    if k + 1 < n {
-        let a = path::anchor_at(anchors, first + k + 1);
-        let p = a.p;
-        return Beside::At(p);
+    if k + 1 == n && !closed {
+        return None;
     }
-    if closed {
-        let a = path::anchor_at(anchors, first);
-        let p = a.p;
-        return Beside::At(p);
-    }
-    Beside::Nothing
+    Some(path::anchor_at(anchors, first + path::next(n, k)).p)
 }

@@ -6,12 +6,13 @@ ghost use Rattle.bend.specs.Edits.{has_bend};
 pub fn has_bend(shapes: &[u32], s: usize, a: usize) -> bool
     ensures { result ≡ has_bend shapes.now s a }
 {
-    if shapes.len() <= s {
+    let Some(word) = shapes.get(s) else {
         return false;
-    }
-    let n = path::count_of(shapes[s]);
+    };
+    let n = path::count_of(*word);
     if n == 1 {
-        return a == 0;
+        a == 0
+    } else {
+        path::has_segment(n, path::closed_of(*word), a)
     }
-    path::has_segment(n, path::closed_of(shapes[s]), a)
 }

@@ -1,65 +1,42 @@
 // An anchor with smooth handles along its neighbours.
 ghost use Rattle.std.specs.Prelude.{◌≡◌};
-ghost use Rattle.bend.specs.Smoothed.{direction, length_in, length_out, handled, smoothed};
+ghost use Rattle.bend.specs.Smoothed.{direction, third, smoothed};
 
-use crate::neighbours::Beside;
 use geom::P;
 use path::Anchor;
 
 // From the point before p to the one after it, or between p and the one that there is.
-fn direction(before: Beside, p: P, after: Beside) -> P
+fn direction(before: Option<P>, p: P, after: Option<P>) -> P
     ensures { result ≡ direction before p after }
 {
-    match before {
-        Beside::At(a) => match after {
-            Beside::At(b) => b.sub(a),
-            Beside::Nothing => p.sub(a),
-        },
-        Beside::Nothing => match after {
-            Beside::At(b) => b.sub(p),
-            Beside::Nothing => P { x: 0.0, y: 0.0 },
-        },
+    match (before, after) {
+        (Some(a), Some(b)) => b - a,
+        (Some(a), None) => p - a,
+        (None, Some(b)) => b - p,
+        (None, None) => P::new(0.0, 0.0),
     }
 }
 
-// The handle in is a third as long as the way from the point before.
-fn length_in(before: Beside, p: P) -> f64
-    ensures { result ≡ length_in before p }
+// A third of the way to a neighbour, 0 where there is none.
+fn third(way: Option<P>) -> f64
+    ensures { result ≡ third way }
 {
-    match before {
-        Beside::At(a) => p.sub(a).len() / 3.0,
-        Beside::Nothing => 0.0,
-    }
-}
-
-// The handle out, as the way to the point after.
-fn length_out(p: P, after: Beside) -> f64
-    ensures { result ≡ length_out p after }
-{
-    match after {
-        Beside::At(b) => b.sub(p).len() / 3.0,
-        Beside::Nothing => 0.0,
-    }
-}
-
-fn handled(p: P, u: P, i: f64, o: f64) -> Anchor
-    ensures { result ≡ handled p u i o }
-{
-    Anchor {
-        p: p,
-        h_in: p.sub(u.mul(i)),
-        h_out: p.add(u.mul(o)),
-    }
+    way.map_or(0.0, |d| d.len() / 3.0)
 }
 
 // As it is where its neighbours give no direction.
-pub fn smoothed(before: Beside, o: Anchor, after: Beside) -> Anchor
+pub fn smoothed(before: Option<P>, o: Anchor, after: Option<P>) -> Anchor
     ensures { result ≡ smoothed before o after }
 {
-    let d = direction(before, o.p, after);
+    let p = o.p;
+    let d = direction(before, p, after);
     if path::short(d) {
         return o;
     }
-    let u = d.mul(1.0 / d.len());
-    handled(o.p, u, length_in(before, o.p), length_out(o.p, after))
+    let u = d * (1.0 / d.len());
+    Anchor {
+        p,
+        h_in: p - u * third(before.map(|a| p - a)),
+        h_out: p + u * third(after.map(|b| b - p)),
+    }
 }

@@ -25,10 +25,6 @@ unfolding grown_by
 grown-append b [] qs = refl
 grown-append b (p ∷ ps) qs = grown-append (grown b p) ps qs
 
-pub grown-none : (b : Bounds) → b ≡ grown_by b []
-unfolding grown_by
-grown-none b = refl
-
 pub grown_one : (b : Bounds) (ps : List P) (p : P) (r s : Bounds) → r ≡ grown_by b ps → s ≡ grown r p → s ≡ grown_by b (ps ++ p ∷ [])
 unfolding grown_by
 grown_one b ps p r s e f = rw (grown-append b ps (p ∷ []), ← e) f

@@ -4,18 +4,9 @@ ghost use Rattle.geom.specs.Box.{grown};
 
 use geom::{Bounds, P};
 
-// 001's `Bounds::add`.
+// Kept: the project's rule names this form of the box, lent by `&mut` to one thin function; by value it is `Bounds::add`.
 pub fn add(b: &mut Bounds, p: P)
     ensures { b.new ≡ grown b.old p }
 {
     *b = b.add(p);
-}
-
-// The same by value, for the loops.
-pub fn step(b: Bounds, p: P) -> Bounds
-    ensures { result ≡ grown b p }
-{
-    let mut c = b;
-    add(&mut c, p);
-    c
 }

@@ -1,5 +1,5 @@
 // The box around a path, after 000's `bounds`.
-#![tactic(auto)]
+#![tactic(auto, unfolding(crate::specs::Calls::box_in, geom::specs::Point::point_in))]
 
 mod boxes;
 mod growing;

@@ -1,11 +1,11 @@
 -- What a call's tests come to, and what the call then answers and leaves. Assumes nothing.
-use mathlib.Core.Path.{◌≡◌, sym, ◌∙◌}
-use mathlib.Core.Bool.{Bool, true, false, not, ◌&&◌, and-false}
+use mathlib.Core.Path.{◌≡◌}
+use mathlib.Core.Bool.{Bool, true, false, ◌&&◌, and-false}
 use mathlib.Core.List.{List}
 use Prim.Native.Nat.{ℕ, ◌*◌, ◌≤◌, ◌<◌}
 use lib.ListN.{length}
 use lib.Ieee.{Float}
-use borrow.Author.Tests.{not-true, not-false, le-leb, lt-leb}
+use borrow.Author.Tests.{le-leb, lt-leb}
 use Rattle.views.specs.View.{overwrite}
 use Rattle.geom.specs.declared.point.P.{P}
 use Rattle.geom.specs.Flat.{coordinates}
@@ -14,13 +14,6 @@ use Rattle.cubic_calls.specs.declared.answers.Number.TheVariants as number
 use Rattle.cubic_calls.specs.declared.answers.Point.TheVariants as point
 use Rattle.cubic_calls.specs.declared.answers.Filled.TheVariants as filled
 use Rattle.cubic_calls.specs.Calls.{tests, judged, number_answer, point_answer, filled_answer, left, fits}
-
--- ---- a test whose function answered what its definition says
-pub held : {answer b : Bool} → answer ≡ b → not answer ≡ false → b ≡ true
-held e t = sym e ∙ not-false _ t
-
-pub failed : {answer b : Bool} → answer ≡ b → not answer ≡ true → b ≡ false
-failed e t = sym e ∙ not-true _ t
 
 -- ---- the room for some points
 pub room : (count : ℕ) (out : List Float) → 2 * count ≤ length out → fits count out ≡ true
@@ -32,9 +25,6 @@ unfolding fits
 no_room count out h = lt-leb (2 * count) (length out) h
 
 -- ---- two tests
-pub both : {a b : Bool} → a ≡ true → b ≡ true → (a && b) ≡ true
-both p q = rw (p, q)
-
 pub first_fails : {a : Bool} (b : Bool) → a ≡ false → (a && b) ≡ false
 first_fails b p = rw p
 
@@ -59,17 +49,9 @@ unfolding judged verdict first_failing judge tests holds
 all_hold g m r = rw (g, m, r)
 
 -- ---- the answer
-pub number-refused : {v : Verdict} {n place : ℕ} (x : Float) → v ≡ refused n place → number.Refused n place ≡ number_answer v x
-unfolding number_answer
-number-refused x e = rw e
-
 pub number_accepted : {v : Verdict} (x : Float) → v ≡ accepted → number.Accepted x ≡ number_answer v x
 unfolding number_answer
 number_accepted x e = rw e
-
-pub point-refused : {v : Verdict} {n place : ℕ} (p : P) → v ≡ refused n place → point.Refused n place ≡ point_answer v p
-unfolding point_answer
-point-refused p e = rw e
 
 pub point_accepted : {v : Verdict} (p : P) → v ≡ accepted → point.Accepted p ≡ point_answer v p
 unfolding point_answer

@@ -4,7 +4,7 @@ use Rattle.views.specs.View.{overwrite}
 use Rattle.views.specs.Search.{all}
 use Rattle.real.specs.Limit.{in_limit}
 use Rattle.geom.specs.declared.point.P.{P}
-use Rattle.geom.specs.Point.{len}
+use Rattle.geom.specs.Point.{len, point_in}
 use Rattle.geom.specs.Flat.{pt, coordinates}
 use Rattle.cubic.specs.Cubic.{cubic_at, subsegment}
 use Rattle.cubic.specs.DeCasteljau.{curve_before, curve_after}
@@ -17,7 +17,6 @@ use Rattle.cubic_calls.specs.declared.answers.Filled.{Filled}
 use Rattle.cubic_calls.specs.declared.answers.Number.TheVariants as number
 use Rattle.cubic_calls.specs.declared.answers.Point.TheVariants as point
 use Rattle.cubic_calls.specs.declared.answers.Filled.TheVariants as filled
-use Rattle.geom.specs.Point.{point_in}
 
 -- ---- the tests: what is given, what is made of it, the room that is lent; a failure of any stands at place 0
 

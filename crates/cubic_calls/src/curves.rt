@@ -65,16 +65,14 @@ pub fn split_cubic(c: [P; 4], t: f64, before: &mut [f64], after: &mut [f64]) -> 
         return Filled::Refused(refusal::ARGUMENTS, 0);
     }
     let halves = cubic::split_cubic(c, t);
-    let first = halves.before;
-    let second = halves.after;
-    if !curve_in_limit(first) || !curve_in_limit(second) {
+    if !curve_in_limit(halves.before) || !curve_in_limit(halves.after) {
         return Filled::Refused(refusal::RESULT, 0);
     }
     if before.len() < 8 || after.len() < 8 {
         return Filled::Refused(refusal::OUTPUT, 0);
     }
-    put_curve(first, before);
-    put_curve(second, after);
+    put_curve(halves.before, before);
+    put_curve(halves.after, after);
     Filled::Accepted(4)
 }
 

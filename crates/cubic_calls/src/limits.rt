@@ -12,12 +12,7 @@ pub fn numbers_in_limit(xs: &[f64], n: usize) -> bool
     requires { n ≤ length xs.now }
     ensures { result ≡ all (λ i. in_limit (entry xs.now i)) n }
 {
-    for i in 0..n {
-        if !real::in_limit(xs[i]) {
-            return false;
-        }
-    }
-    true
+    xs[..n].iter().all(|x| real::in_limit(*x))
 }
 
 // The four control points, x before y.
@@ -25,8 +20,7 @@ pub fn put_curve(c: [P; 4], to: &mut [f64])
     requires { 8 ≤ length to.old }
     ensures { to.new ≡ overwrite 8 (coordinates (pt c)) to.old }
 {
-    for k in 0..4 {
-        let p = c[k];
+    for (k, p) in c.iter().enumerate() {
         to[2 * k] = p.x;
         to[2 * k + 1] = p.y;
     }

@@ -1,16 +1,16 @@
--- Laws of a gap: what one more store does, and what then stands in each group. Assumes nothing.
+-- Laws of a gap: what the copy leaves, and what then stands in each group. Assumes nothing.
 use mathlib.Core.Path.{◌≡◌, sym, ap, ◌∙◌}
 use mathlib.Core.Logic.{⊎_elim}
 use mathlib.Core.List.{List}
 use Prim.Native.Nat.{ℕ, suc, ◌+◌, ◌-◌, ◌*◌, ◌≤◌, ◌<◌}
 use native.Mathlib.Nat.{mul-le-mul_right, suc-mul}
 use native.Mathlib.Omega.{arith}
-use lib.ListN.{length, set}
-use lib.Seq.{get_or-set_same, get_or-set_other}
+use lib.ListN.{length}
+use Rattle.std.specs.List.{CopiedTo, SameBelow, SameFrom}
 use lib.Ieee.{Float, nan}
 use borrow.Author.Tests.{lt-ltb, le-ltb}
 use Rattle.views.specs.View.{entry}
-use Rattle.views.proofs.Laws.{order, same, length-overwrite, at_overwrite, past_overwrite}
+use Rattle.views.proofs.Laws.{order, as_overwrite, length-overwrite, at_overwrite, past_overwrite}
 use Rattle.edit.specs.Gap.{shifted_at, moved, gapped}
 
 module _ (xs : List Float) (lo by j : ℕ) where
@@ -22,27 +22,17 @@ module _ (xs : List Float) (lo by j : ℕ) where
   unfolding shifted_at
   above h = rw (le-ltb j (lo + by) h)
 
--- ---- one store more
-module _ (xs : List Float) (i by : ℕ) (l : 0 < i) where
-  off : (j : ℕ) → (j ≡ i - 1 + by → ⊥) → shifted_at xs i by j ≡ shifted_at xs (i - 1) by j
-  off j ne =
-      ⊎_elim
-      (λ h. above xs i by j h ∙ sym (above xs (i - 1) by j (omega arith)))
-      (λ h. below xs i by j h ∙ sym (below xs (i - 1) by j (⊎_elim (λ (m : i - 1 + by ≤ j). absurd (ne (omega arith))) (λ (m : j < i - 1 + by). m) (order (i - 1 + by) j))))
-      (order (i + by) j)
-
-  module _ (ys : List Float) (hi : ℕ) (m : i ≤ hi) (h : (j : ℕ) → j < hi + by → entry ys j ≡ shifted_at xs i by j) where
-    pub step : i - 1 + by < length ys → (j : ℕ) → j < hi + by → entry (set ys (i - 1 + by) (entry ys (i - 1))) j ≡ shifted_at xs (i - 1) by j
-    step b j k =
-        ⊎_elim
-        (λ e. rw e (get_or-set_same ys (i - 1 + by) (entry ys (i - 1)) nan b ∙ here))
-        (λ ne. get_or-set_other ys (i - 1 + by) j (entry ys (i - 1)) nan ne ∙ h j k ∙ off j ne)
-        (same j (i - 1 + by))
-      where
-        here : entry ys (i - 1) ≡ shifted_at xs (i - 1) by (i - 1 + by)
-        here =
-            let e : i - 1 + by - by ≡ i - 1 = omega arith in
-            h (i - 1) (omega arith) ∙ below xs i by (i - 1) (omega arith) ∙ sym (ap (entry xs) e) ∙ sym (above xs (i - 1) by (i - 1 + by) (omega arith))
+-- ---- what `copy_within` leaves
+pub copied_up : (xs ys : List Float) (lo hi by : ℕ) → lo ≤ hi → hi + by ≤ length xs → length ys ≡ length xs
+    → CopiedTo xs ys lo (lo + by) (hi - lo) → SameBelow xs ys (lo + by) → SameFrom xs ys (lo + by + (hi - lo)) → ys ≡ moved xs lo hi by
+unfolding moved
+copied_up xs ys lo hi by l room len copied low high =
+    as_overwrite nan ys xs (hi + by) (shifted_at xs lo by) len
+    (λ j h. ⊎_elim
+    (λ m. let e : lo + (j - (lo + by)) ≡ j - by = omega arith in copied j nan m (omega arith) ∙ ap (entry xs) e ∙ sym (above xs lo by j m))
+    (λ m. low j nan m ∙ sym (below xs lo by j m))
+    (order (lo + by) j))
+    (λ j h. high j nan (omega arith))
 
 -- ---- the gap, group by group: number i of group g, of groups of w
 pub length-gap : (xs : List Float) (from count w : ℕ) → length (gapped xs from count w) ≡ length xs

@@ -13,7 +13,7 @@ use Rattle.real.specs.Limit.{in_limit}
 use Rattle.refusal.specs.Order.{passes, judge, refused}
 use Rattle.refusal.proofs.Verdicts.{holds_true, holds_false, in_order, by_arguments, by_reference, by_capacity}
 use Rattle.path.specs.declared.anchor.Anchor.{Anchor}
-use Rattle.path.specs.declared.limit.Found.TheVariants.{At, Nothing}
+use Rattle.std.proofs.Common.{Some, None}
 use Rattle.path.specs.Flat.{anchor_at}
 use Rattle.path.specs.Shape.{count_of, closed_of, total, word_at, start, is_segment, next}
 use Rattle.path.specs.Limit.{anchor_in, first_bad}
@@ -43,19 +43,19 @@ module _ (shapes : List ℕ) (xs : List Float) (n s a b : ℕ) (t : Float) where
   between-refused c k e = (outline-refused _ _ e, list_kept _ _ _ e, anchors_kept _ _ e)
 
   module _ (la : a < n) (good : GoodBelow (anchor_in xs) n) where
-    pub between_bad : (k : ℕ) → first_bad bounded (n + 1) ≡ At k → made_verdict made shapes xs ≡ refused 9 k
+    pub between_bad : (k : ℕ) → first_bad bounded (n + 1) ≡ Some k → made_verdict made shapes xs ≡ refused 9 k
     between_bad k e =
         let l : Least (outline_in made) (n + 1) k = least_cong bounded (outline_in made) (n + 1) (λ j h. sym (split-within xs n a b t la good j h)) k ((first_is bounded (n + 1) k).0 e) in
         made_bad made shapes xs k (rw (length-split xs n a b t) l)
 
-    all_good : first_bad bounded (n + 1) ≡ Nothing → GoodBelow (outline_in made) (length made)
+    all_good : first_bad bounded (n + 1) ≡ None → GoodBelow (outline_in made) (length made)
     all_good e =
         rw (length-split xs n a b t) (good_cong bounded (outline_in made) (n + 1) (λ j h. sym (split-within xs n a b t la good j h)) ((none_is bounded (n + 1)).0 e))
 
-    pub between-short : first_bad bounded (n + 1) ≡ Nothing → length xs < n * 6 + 6 → made_verdict made shapes xs ≡ refused 8 0
+    pub between-short : first_bad bounded (n + 1) ≡ None → length xs < n * 6 + 6 → made_verdict made shapes xs ≡ refused 8 0
     between-short e h = made-short made shapes xs (all_good e) (let w = length-split xs n a b t in omega arith)
 
-    pub between_accepted : (e : first_bad bounded (n + 1) ≡ Nothing) (p : a ≡ b → ⊥) (lb : b < n) (room : n * 6 + 6 ≤ length xs)
+    pub between_accepted : (e : first_bad bounded (n + 1) ≡ None) (p : a ≡ b → ⊥) (lb : b < n) (room : n * 6 + 6 ≤ length xs)
         → (Accepted (length shapes) (n + 1) ≡ outline_answer (made_verdict made shapes xs) (length shapes) (n + 1))
         × (split_shapes shapes s ≡ list_left (made_verdict made shapes xs) (length shapes) (word_at (split_shapes shapes s)) shapes)
         × (stored xs n a b t p la lb room ≡ anchors_left (made_verdict made shapes xs) made xs)

@@ -12,7 +12,7 @@ use borrow.Author.Tests.{eq-eqb, ne_eqb, le-leb, lt-leb}
 use Rattle.views.specs.View.{entry}
 use Rattle.views.proofs.Laws.{order, same, length-tabulate, at_tabulate, as_overwrite}
 use Rattle.geom.specs.Point.{point}
-use Rattle.path.specs.declared.limit.Found.TheVariants.{At, Nothing}
+use Rattle.std.proofs.Common.{Some, None}
 use Rattle.path.specs.Anchor.{without_handles}
 use Rattle.path.specs.Flat.{anchor_at, numbers, anchor_numbers, put_anchor, nth, listed}
 use Rattle.path.specs.Limit.{anchor_good, anchor_in, first_bad}
@@ -55,24 +55,24 @@ module _ (h : Halved) (a b : ℕ) (p : a ≡ b → ⊥) (q : a + 1 ≡ b → ⊥
       (same k (a + 1)))
       (same k a)
 
-  least : (n k : ℕ) → k < n → puts_within h a b k ≡ false → GoodBelow (puts_within h a b) k → At k ≡ first_bad (puts_within h a b) n
+  least : (n k : ℕ) → k < n → puts_within h a b k ≡ false → GoodBelow (puts_within h a b) k → Some k ≡ first_bad (puts_within h a b) n
   least n k l e g = sym ((first_is (puts_within h a b) n k).1 (record { place = l; bad = e; below = g }))
 
   module _ (n : ℕ) (i : a + 1 < n) (j : b < n) where
-    pub right_first : b < a → anchor_good h.right ≡ false → At b ≡ first_bad (puts_within h a b) n
+    pub right_first : b < a → anchor_good h.right ≡ false → Some b ≡ first_bad (puts_within h a b) n
     right_first l e = least n b j (at_right ∙ e) (good_below b (λ m. absurd (omega arith)) (λ m. absurd (omega arith)) (λ m. absurd (omega arith)))
 
-    pub left_first : anchor_good h.left ≡ false → (b < a → anchor_good h.right ≡ true) → At a ≡ first_bad (puts_within h a b) n
+    pub left_first : anchor_good h.left ≡ false → (b < a → anchor_good h.right ≡ true) → Some a ≡ first_bad (puts_within h a b) n
     left_first e r = least n a (omega arith) (at_left ∙ e) (good_below a (λ m. absurd (omega arith)) (λ m. absurd (omega arith)) r)
 
-    pub middle_first : anchor_good h.left ≡ true → anchor_good h.middle ≡ false → (b < a → anchor_good h.right ≡ true) → At (a + 1) ≡ first_bad (puts_within h a b) n
+    pub middle_first : anchor_good h.left ≡ true → anchor_good h.middle ≡ false → (b < a → anchor_good h.right ≡ true) → Some (a + 1) ≡ first_bad (puts_within h a b) n
     middle_first l e r =
         least n (a + 1) i (at_middle ∙ e) (good_below (a + 1) (λ m. l) (λ m. absurd (omega arith)) (λ m. r (⊎_elim (λ (g : a ≤ b). absurd (p (omega arith))) (λ (g : b < a). g) (order a b))))
 
-    pub right_last : anchor_good h.left ≡ true → anchor_good h.middle ≡ true → anchor_good h.right ≡ false → At b ≡ first_bad (puts_within h a b) n
+    pub right_last : anchor_good h.left ≡ true → anchor_good h.middle ≡ true → anchor_good h.right ≡ false → Some b ≡ first_bad (puts_within h a b) n
     right_last l c e = least n b j (at_right ∙ e) (good_below b (λ m. l) (λ m. c) (λ m. absurd (omega arith)))
 
-    pub none_first : anchor_good h.left ≡ true → anchor_good h.middle ≡ true → anchor_good h.right ≡ true → Nothing ≡ first_bad (puts_within h a b) n
+    pub none_first : anchor_good h.left ≡ true → anchor_good h.middle ≡ true → anchor_good h.right ≡ true → None ≡ first_bad (puts_within h a b) n
     none_first l c r = sym ((none_is (puts_within h a b) n).1 (good_below n (λ m. l) (λ m. c) (λ m. r)))
 
 -- ---- indices

@@ -1,5 +1,5 @@
 // Edits of a path, after 000: an anchor put into a segment, a subpath turned round.
-#![tactic(auto)]
+#![tactic(auto, unfolding(crate::specs::Gap::gapped, crate::specs::Reversed::turned, crate::specs::Split::halves, crate::specs::Split::split_shapes, cut::specs::Near::shifted))]
 
 mod gap;
 mod reversal;

@@ -13,13 +13,10 @@ use path::Anchor;
 pub fn turned(a: Anchor) -> Anchor
     ensures { result ≡ turned a }
 {
-    let p = a.p;
-    let h_in = a.h_out;
-    let h_out = a.h_in;
     Anchor {
-        p: p,
-        h_in: h_in,
-        h_out: h_out,
+        p: a.p,
+        h_in: a.h_out,
+        h_out: a.h_in,
     }
 }
 
@@ -40,6 +37,7 @@ fn turn_round(anchors: &mut [f64], all: usize, first: usize, n: usize)
     ensures { anchors.new ≡ listed (tabulate all (reversed_anchors (anchor_at anchors.old) first n)) anchors.old }
 {
     let half = (n + 1) / 2;
+    // Kept: by the distance from either end, from which both places are counted.
     for i in 0..half {
         exchange(anchors, first + i, first + (n - 1 - i));
     }
@@ -60,8 +58,12 @@ fn reversed_opened(
     if shapes.len() <= s {
         return Outline::Refused(refusal::REFERENCE, 0);
     }
-    let count = path::count_of(shapes[s]);
-    turn_round(anchors, n, path::start_of(shapes, s), count);
+    turn_round(
+        anchors,
+        n,
+        path::start_of(shapes, s),
+        path::count_of(shapes[s]),
+    );
     Outline::Accepted(shapes.len(), n)
 }
 
@@ -70,8 +72,7 @@ pub fn reversed(shapes: &[u32], anchors: &mut [f64], radii: &[f64], s: usize) ->
     ensures answer { result ≡ reversed_answer shapes.now anchors.old radii.now s }
     ensures anchors { anchors.new ≡ reversed_left shapes.now anchors.old radii.now s }
 {
-    let opened = call::open_drawing(shapes, anchors, radii);
-    match opened {
+    match call::open_drawing(shapes, anchors, radii) {
         Opened::Refused(c, k) => Outline::Refused(c, k),
         Opened::Anchors(n) => reversed_opened(shapes, anchors, radii, n, s),
     }

@@ -12,10 +12,10 @@ ghost use Rattle.edit.specs.Split.{shifted, halves, puts_within, split_places, s
 
 use crate::gap::shift_up;
 use call::{Opened, Outline};
-use path::{Anchor, Found};
+use path::Anchor;
 
 // The ends of a split segment, and the anchor between them.
-#[derive(Clone, Copy)]
+#[derive(Clone, Copy, Debug, PartialEq)]
 pub struct Halved {
     pub left: Anchor,
     pub middle: Anchor,
@@ -26,27 +26,21 @@ pub fn halves(a: Anchor, b: Anchor, t: f64) -> Halved
     ensures { result ≡ halves a b t }
 {
     let h = cubic::split_cubic(a.cubic(b), t);
-    let before = h.before;
-    let after = h.after;
-    let start = a.p;
-    let arriving = a.h_in;
-    let end = b.p;
-    let leaving = b.h_out;
     Halved {
         left: Anchor {
-            p: start,
-            h_in: arriving,
-            h_out: before[1],
+            p: a.p,
+            h_in: a.h_in,
+            h_out: h.before[1],
         },
         middle: Anchor {
-            p: before[3],
-            h_in: before[2],
-            h_out: after[1],
+            p: h.before[3],
+            h_in: h.before[2],
+            h_out: h.after[1],
         },
         right: Anchor {
-            p: end,
-            h_in: after[2],
-            h_out: leaving,
+            p: b.p,
+            h_in: h.after[2],
+            h_out: b.h_out,
         },
     }
 }
@@ -56,34 +50,25 @@ pub fn shifted(a: usize, j: usize) -> usize
     requires { j < 1024 }
     ensures { result ≡ shifted a j }
 {
-    if a < j {
-        return j + 1;
-    }
-    j
+    if a < j { j + 1 } else { j }
 }
 
 // The first place that breaks the limit, where the three anchors go to a, a + 1 and b.
-pub fn first_out(h: Halved, a: usize, b: usize) -> Found
+pub fn first_out(h: Halved, a: usize, b: usize) -> Option<usize>
     requires { (a < 1024) × (a ≡ b → ⊥) × (a + 1 ≡ b → ⊥) }
     ensures { (n : ℕ) → a + 1 < n → b < n → result ≡ first_bad (puts_within h a b) n }
 {
-    let right = h.right;
-    let last = right.in_limit();
+    let last = h.right.in_limit();
     if b < a && !last {
-        return Found::At(b);
+        return Some(b);
     }
-    let left = h.left;
-    if !left.in_limit() {
-        return Found::At(a);
+    if !h.left.in_limit() {
+        return Some(a);
     }
-    let middle = h.middle;
-    if !middle.in_limit() {
-        return Found::At(a + 1);
+    if !h.middle.in_limit() {
+        return Some(a + 1);
     }
-    if !last {
-        return Found::At(b);
-    }
-    Found::Nothing
+    if last { None } else { Some(b) }
 }
 
 // Puts a new anchor into the segment between two places of a path of n anchors.
@@ -91,13 +76,10 @@ pub fn put_halves(anchors: &mut [f64], n: usize, a: usize, b: usize, h: Halved)
     requires { (n < 512) × (n * 6 + 6 ≤ length anchors.old) × (a < n) × (b < n) × (a ≡ b → ⊥) }
     ensures { anchors.new ≡ put_anchor (put_anchor (put_anchor (gapped anchors.old (a + 1) n 6) a h.left) (a + 1) h.middle) (shifted a b) h.right }
 {
-    let left = h.left;
-    let middle = h.middle;
-    let right = h.right;
     shift_up(anchors, a + 1, n, 6);
-    path::put_anchor(anchors, a, left);
-    path::put_anchor(anchors, a + 1, middle);
-    path::put_anchor(anchors, shifted(a, b), right);
+    path::put_anchor(anchors, a, h.left);
+    path::put_anchor(anchors, a + 1, h.middle);
+    path::put_anchor(anchors, shifted(a, b), h.right);
 }
 
 // One anchor more in subpath s.
@@ -105,7 +87,7 @@ pub fn count_up(shapes: &mut [u32], s: usize)
     requires { (s < length shapes.old) × (count_of (word_at shapes.old s) < 512) }
     ensures { shapes.new ≡ split_shapes shapes.old s }
 {
-    shapes[s] = shapes[s] + 1;
+    shapes[s] += 1;
 }
 
 // Splits the segment between two places of a path that passed the tests before: 9 and 8 are left.
@@ -124,8 +106,7 @@ fn split_between(
     ensures anchors { anchors.new ≡ anchors_left (made_verdict (split_places anchors.old n a b t) shapes.old anchors.old) (split_places anchors.old n a b t) anchors.old }
 {
     let h = halves(path::anchor_at(anchors, a), path::anchor_at(anchors, b), t);
-    let bad = first_out(h, a, shifted(a, b));
-    if let Found::At(k) = bad {
+    if let Some(k) = first_out(h, a, shifted(a, b)) {
         return Outline::Refused(refusal::RESULT, k);
     }
     if anchors.len() < n * 6 + 6 {
@@ -174,8 +155,7 @@ pub fn split(shapes: &mut [u32], anchors: &mut [f64], s: usize, a: usize, t: f64
     ensures shapes { shapes.new ≡ split_shapes_left shapes.old anchors.old s a t }
     ensures anchors { anchors.new ≡ split_anchors_left shapes.old anchors.old s a t }
 {
-    let opened = call::open_path(512, shapes, anchors);
-    match opened {
+    match call::open_path(512, shapes, anchors) {
         Opened::Refused(c, k) => Outline::Refused(c, k),
         Opened::Anchors(n) => split_opened(shapes, anchors, n, s, a, t),
     }

@@ -12,7 +12,7 @@ use Rattle.real.specs.Limit.{in_limit}
 use Rattle.real.proofs.Tables.{Rising, none, some, square_rises, sum_rises}
 use Rattle.geom.specs.declared.point.P.{P}
 use Rattle.geom.specs.Point.{dot, len}
-use Rattle.path.specs.declared.limit.Found.TheVariants.{At, Nothing}
+use Rattle.std.proofs.Common.{Some, None}
 use Rattle.hit.specs.declared.best.Best.{Best}
 use Rattle.hit.specs.Best.{beats, counts, taken, Barred}
 use Rattle.real.proofs.Orders.{not_above, le_trans}
@@ -53,7 +53,7 @@ bars tol g r h d k = go (le (len d) tol) refl
     go false e = e
     go true e = absurd (true≢false (sym h ∙ not_above (root_of g) tol (le_trans (root_of g) (len d) tol rise e)))
 
-pub nothing-barred : (tol g : Float) (b : Best) → b.found ≡ Nothing → b.bar ≡ g → Rising g → lt tol (root_of g) ≡ true → Barred tol b
+pub nothing-barred : (tol g : Float) (b : Best) → b.nearest ≡ None → b.bar ≡ g → Rising g → lt tol (root_of g) ≡ true → Barred tol b
 unfolding Barred counts
 nothing-barred tol g b f e r h d k = rw (bars tol g r h d (rw e at k))
 
@@ -66,21 +66,13 @@ endless (fin s m e') e = refl
 
 -- a candidate that counts is the new bar
 abbrev pub lead : ℕ → P → Best
-lead i d = record { found = At i; dist = len d; bar = dot d d }
+lead i d = record { nearest = Some (record { number = i; dist = len d }); bar = dot d d }
 
 new_bar : (tol : Float) (i : ℕ) (d : P) → Barred tol (lead i d)
 unfolding Barred counts beats
 new_bar tol i d v k =
     let rise : le (len d) (len v) ≡ true = rw (root-is-len d, root-is-len v) at (roots_rise (dot d d) (dot v v) (square-of d) (square-of v) k) in
     rw (not_above (len d) (len v) rise, and_false)
-
-pub taken-barred : (tol : Float) (b : Best) (i : ℕ) (d : P) → Barred tol b → Barred tol (taken tol b i d)
-unfolding taken
-taken-barred tol b i d h = go (counts tol b d) refl
-  where
-    go : (t : Bool) → counts tol b d ≡ t → Barred tol (taken tol b i d)
-    go false e = rw e h
-    go true e = rw e (new_bar tol i d)
 
 -- what the code's tests come to
 module _ (tol : Float) (b : Best) (i : ℕ) (d : P) (h : Barred tol b) where
@@ -100,12 +92,12 @@ module _ (tol : Float) (b : Best) (i : ℕ) (d : P) (h : Barred tol b) where
     unfolding counts
     too_far t = kept (rw (← l, t))
 
-    pub no_nearer : le length tol ≡ true → beats b.found b.dist length ≡ false → Taken b
+    pub no_nearer : le length tol ≡ true → beats b.nearest length ≡ false → Taken b
     unfolding counts
     no_nearer t n = kept (rw (← l, t, n))
 
-    pub leads : (square : Float) → square ≡ dot d d → le length tol ≡ true → beats b.found b.dist length ≡ true
-        → Taken (record { found = At i; dist = length; bar = square })
+    pub leads : (square : Float) → square ≡ dot d d → le length tol ≡ true → beats b.nearest length ≡ true
+        → Taken (record { nearest = Some (record { number = i; dist = length }); bar = square })
     unfolding counts taken
     leads square e t n =
         let c : counts tol b d ≡ true = rw (← l, t, n) in

@@ -10,11 +10,11 @@ use lib.Ieee.{Float, is_nan, le}
 use Rattle.geom.specs.declared.point.P.{P}
 use Rattle.geom.specs.Point.{len}
 use Rattle.refusal.specs.Order.{accepted, refused}
-use Rattle.path.specs.declared.limit.Found.TheVariants.{At, Nothing}
+use Rattle.std.proofs.Common.{Some, None}
 use Rattle.path.specs.Flat.{curve_of}
 use Rattle.path.specs.Shape.{count_of, closed_of, total, word_at, start, sub_of, is_segment}
 use Rattle.hit.specs.declared.best.Best.{Best}
-use Rattle.hit.specs.declared.located.Located.{Located}
+use Rattle.path.specs.declared.shape.AnchorRef.{AnchorRef}
 use Rattle.hit.specs.declared.segments.HitSegment.TheVariants as segment
 use Rattle.hit.specs.Located.{index_of, located}
 use Rattle.hit.specs.Steps.{step_offset, step_parameter, word_over, starts_at, curve_from, chord_distance, chord_within, nearest_chord}
@@ -85,7 +85,7 @@ module _ (shapes : List ℕ) (anchors : List Float) (N : ℕ) (q : P) (tol : Flo
   subpath-stands s l x y b r e f w g = rw (f, g, e) (segments_stand s l b (rw e at w) (count_of (word_at shapes s)) (omega arith))
 
   -- what is found is a chord of the path
-  pub chord_below : (i : ℕ) → nearest_chord shapes anchors N q tol ≡ At i → i < total shapes * N
+  pub chord_below : (i : ℕ) → nearest_chord shapes anchors N q tol ≡ Some i → i < total shapes * N
   unfolding nearest_chord chord_within
   chord_below i e = (nearest-is _ _ number (total shapes * N) i e).place
     where
@@ -98,9 +98,9 @@ module _ (shapes : List ℕ) (anchors : List Float) (N : ℕ) (q : P) (tol : Flo
 
 -- ---- the answer
 module _ (shapes : List ℕ) (anchors : List Float) (q : P) where
-  pub chord-answer : (i : ℕ) → i / 48 < total shapes → (o : Located) (c : List P) (t : Float) → o ≡ located shapes (i / 48)
+  pub chord-answer : (i : ℕ) → i / 48 < total shapes → (o : AnchorRef) (c : List P) (t : Float) → o ≡ located shapes (i / 48)
       → c ≡ curve_of anchors (i / 48 - o.anchor) (count_of (word_at shapes o.subpath)) o.anchor → t ≡ step_parameter 48 q c (i % 48)
-      → segment.At o.subpath o.anchor t ≡ segment_answer 48 shapes anchors q accepted (At i)
+      → segment.At o.subpath o.anchor t ≡ segment_answer 48 shapes anchors q accepted (Some i)
   unfolding segment_answer curve_from word_over located
   chord-answer i h o c t o_is c-is t-is =
       let p = (placed shapes (i / 48) h).place in
@@ -113,10 +113,10 @@ module _ (shapes : List ℕ) (anchors : List Float) (q : P) (tol : Float) where
   segment-refused c k e = rw e
 
   module _ (p : hit_verdict shapes anchors q tol ≡ accepted) where
-    pub segment_missed : nearest_chord shapes anchors 48 q tol ≡ Nothing → segment.Nothing ≡ hit_segment_answer shapes anchors q tol
+    pub segment_missed : nearest_chord shapes anchors 48 q tol ≡ None → segment.Nothing ≡ hit_segment_answer shapes anchors q tol
     unfolding hit_segment_answer segment_answer
     segment_missed e = rw (p, e)
 
-    pub segment_found : (i : ℕ) → nearest_chord shapes anchors 48 q tol ≡ At i → segment_answer 48 shapes anchors q accepted (At i) ≡ hit_segment_answer shapes anchors q tol
+    pub segment_found : (i : ℕ) → nearest_chord shapes anchors 48 q tol ≡ Some i → segment_answer 48 shapes anchors q accepted (Some i) ≡ hit_segment_answer shapes anchors q tol
     unfolding hit_segment_answer
     segment_found i e = rw (p, e)

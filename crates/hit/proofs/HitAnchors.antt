@@ -10,8 +10,7 @@ use lib.ListN.{length}
 use lib.Ieee.{Float, le}
 use Rattle.geom.specs.declared.point.P.{P}
 use Rattle.refusal.specs.Order.{accepted}
-use Rattle.path.specs.declared.limit.Found.{Found}
-use Rattle.path.specs.declared.limit.Found.TheVariants as found
+use Rattle.std.proofs.Common.{Option, Some, None}
 use Rattle.path.specs.Shape.{count_of, word_at, total, start}
 use Rattle.hit.specs.declared.anchors.HitAnchor.TheVariants.{Nothing, At}
 use Rattle.hit.specs.Calls.{hit_verdict, anchor_distance, nearest_anchor, anchor_answer, hit_anchor_answer}
@@ -34,12 +33,12 @@ module _ (shapes : List ℕ) (anchors : List Float) (q : P) (tol : Float) (passe
   unfolding hit_anchor_answer anchor_answer nearest_anchor
   nothing_exactly = (λ e. is.0 (to (nearest_anchor anchors q tol (total shapes)) refl (rw passed at e)), λ h. rw (passed, is.1 h))
     where
-      is : (nearest_anchor anchors q tol (total shapes) ≡ found.Nothing) ↔ ((k : ℕ) → k < total shapes → le (anchor_distance anchors q k) tol ≡ false)
+      is : (nearest_anchor anchors q tol (total shapes) ≡ None) ↔ ((k : ℕ) → k < total shapes → le (anchor_distance anchors q k) tol ≡ false)
       is = nothing_is _ _ (λ i w. le-number _ tol w) (total shapes)
 
-      to : (f : Found) → nearest_anchor anchors q tol (total shapes) ≡ f → anchor_answer accepted shapes f ≡ Nothing → nearest_anchor anchors q tol (total shapes) ≡ found.Nothing
-      to found.Nothing e h = e
-      to (found.At k) e h = absurd (apart _ _ h)
+      to : (f : Option ℕ) → nearest_anchor anchors q tol (total shapes) ≡ f → anchor_answer accepted shapes f ≡ Nothing → nearest_anchor anchors q tol (total shapes) ≡ None
+      to None e h = e
+      to (Some k) e h = absurd (apart _ _ h)
 
   -- the nearest of those within tol, the first on ties: anchor a of subpath s
   pub nearest_first : (s a : ℕ) → hit_anchor_answer shapes anchors q tol ≡ At s a
@@ -47,10 +46,10 @@ module _ (shapes : List ℕ) (anchors : List Float) (q : P) (tol : Float) (passe
   unfolding hit_anchor_answer anchor_answer nearest_anchor
   nearest_first s a h = go (nearest_anchor anchors q tol (total shapes)) refl (rw passed at h)
     where
-      go : (f : Found) → nearest_anchor anchors q tol (total shapes) ≡ f → anchor_answer accepted shapes f ≡ At s a
+      go : (f : Option ℕ) → nearest_anchor anchors q tol (total shapes) ≡ f → anchor_answer accepted shapes f ≡ At s a
           → (s < length shapes) × (a < count_of (word_at shapes s)) × NearestWithin (λ k. le (anchor_distance anchors q k) tol) (anchor_distance anchors q) (total shapes) (start shapes s + a)
-      go found.Nothing e g = absurd (apart s a (sym g))
-      go (found.At k) e g =
+      go None e g = absurd (apart s a (sym g))
+      go (Some k) e g =
           let n = nearest-is _ _ (λ i w. le-number _ tol w) (total shapes) k e in
           let p = placed shapes k n.place in
           rw (sym (same-subpath _ _ s a g), sym (same-anchor _ _ s a g)) (p.subpath, p.index, rw (sym p.place) at n)

@@ -11,7 +11,7 @@ use Rattle.geom.specs.declared.point.P.{P}
 use Rattle.geom.specs.Point.{minus}
 use Rattle.refusal.specs.Order.{judge, Verdict, accepted, refused}
 use Rattle.refusal.proofs.Verdicts.{holds_true, holds_false, in_order, by_arguments, by_none}
-use Rattle.path.specs.declared.limit.Found.TheVariants.{At, Nothing}
+use Rattle.std.proofs.Common.{Some, None}
 use Rattle.path.specs.Shape.{total, sub_of}
 use Rattle.path.specs.Flat.{anchor_at}
 use Rattle.call.specs.declared.opening.Opened.{Opened}
@@ -104,7 +104,7 @@ unfolding anchor_distance
 anchor_more anchors q tol k b r v s e t = rw (t, e, add-one k) (stands_more _ _ k b s tol (minus (anchor_at anchors k).p q) refl refl)
 
 -- what is found is an anchor of the path
-pub found_below_lem : (anchors : List Float) (q : P) (tol : Float) (n k : ℕ) → nearest_anchor anchors q tol n ≡ At k → k < n
+pub found_below_lem : (anchors : List Float) (q : P) (tol : Float) (n k : ℕ) → nearest_anchor anchors q tol n ≡ Some k → k < n
 unfolding nearest_anchor
 found_below_lem anchors q tol n k e = (nearest-is _ _ (λ i w. le-number _ tol w) n k e).place
 
@@ -115,10 +115,10 @@ module _ (shapes : List ℕ) (anchors : List Float) (q : P) (tol : Float) where
   anchor-refused c k e = rw e
 
   module _ (n : ℕ) (o : HitOpens shapes anchors q tol n) where
-    pub anchor_missed : nearest_anchor anchors q tol n ≡ Nothing → anchor.Nothing ≡ hit_anchor_answer shapes anchors q tol
+    pub anchor_missed : nearest_anchor anchors q tol n ≡ None → anchor.Nothing ≡ hit_anchor_answer shapes anchors q tol
     unfolding hit_anchor_answer anchor_answer
     anchor_missed e = rw (o.passed, ← o.path.count, e)
 
-    pub anchor_found : (k : ℕ) → nearest_anchor anchors q tol n ≡ At k → anchor.At (sub_of shapes k) (index_of shapes k) ≡ hit_anchor_answer shapes anchors q tol
+    pub anchor_found : (k : ℕ) → nearest_anchor anchors q tol n ≡ Some k → anchor.At (sub_of shapes k) (index_of shapes k) ≡ hit_anchor_answer shapes anchors q tol
     unfolding hit_anchor_answer anchor_answer
     anchor_found k e = rw (o.passed, ← o.path.count, e)

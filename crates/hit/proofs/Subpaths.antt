@@ -10,6 +10,7 @@ use borrow.Author.Tests.{lt-ltb, le-ltb}
 use Rattle.views.proofs.Laws.{order}
 use Rattle.path.specs.Shape.{count_of, total, word_at, start, sub_of}
 use Rattle.path.proofs.Shapes.{total-end}
+use Rattle.path.specs.declared.shape.AnchorRef.{AnchorRef}
 use Rattle.hit.specs.Located.{index_of, located}
 
 pub sub_at_lem : (shapes : List ℕ) (s a : ℕ) → s < length shapes → a < count_of (word_at shapes s) → sub_of shapes (start shapes s + a) ≡ s
@@ -60,3 +61,13 @@ placed (w ∷ ws) k h = ⊎_elim (λ l. later l (placed ws (k - count_of w) (ome
         let n = p.place in
         let d : k - (count_of w + start ws (sub_of ws (k - count_of w))) ≡ k - count_of w - start ws (sub_of ws (k - count_of w)) = omega arith in
         record { subpath = rw e (omega arith); index = rw (e, d) j; place = rw (e, d) (omega arith) }
+
+-- and of a place that was located
+pub record LocatedIn (shapes : List ℕ) (k : ℕ) (o : AnchorRef) : Type 0 where
+  pub subpath : o.subpath < length shapes
+  pub index : o.anchor < count_of (word_at shapes o.subpath)
+  pub place : start shapes o.subpath + o.anchor ≡ k
+
+pub located_in : (shapes : List ℕ) (k : ℕ) (o : AnchorRef) → k < total shapes → o ≡ located shapes k → LocatedIn shapes k o
+unfolding located
+located_in shapes k o h e = let p = placed shapes k h in rw e (record { subpath = p.subpath; index = p.index; place = p.place })

@@ -7,7 +7,7 @@ use native.Mathlib.Nat.{not-suc-le-zero, le_refl}
 use native.Mathlib.Omega.{arith}
 use lib.Ieee.{Float, is_nan, lt, le}
 use Rattle.views.proofs.Laws.{order}
-use Rattle.path.specs.declared.limit.Found.TheVariants.{At, Nothing}
+use Rattle.std.proofs.Common.{Some, None}
 use Rattle.hit.specs.Nearest.{nearer, nearest}
 use Rattle.hit.proofs.Walked.{same_at, apart}
 use Rattle.real.proofs.Orders.{not_below, lt-is-le, le_self, lt-le_trans}
@@ -27,8 +27,8 @@ module _ (within : ℕ → Bool) (d : ℕ → Float) where
   -- what is within is a number
   module _ (number : (i : ℕ) → within i ≡ true → is_nan (d i) ≡ false) where
     pub data Outcome (n : ℕ) : Type 0 where
-      nothing : NoneWithin n → nearest within d n ≡ Nothing → Outcome n
-      one : (k : ℕ) → NearestWithin n k → nearest within d n ≡ At k → Outcome n
+      nothing : NoneWithin n → nearest within d n ≡ None → Outcome n
+      one : (k : ℕ) → NearestWithin n k → nearest within d n ≡ Some k → Outcome n
 
     itself : (i : ℕ) → within i ≡ true → le (d i) (d i) ≡ true
     itself i w = le_self (d i) (number i w)
@@ -89,18 +89,18 @@ module _ (within : ℕ → Bool) (d : ℕ → Float) where
             test false h = one k (keep n k b (λ v. h)) (rw (e, w, h))
 
     -- ---- the theorem
-    pub nothing_is : (n : ℕ) → (nearest within d n ≡ Nothing) ↔ NoneWithin n
+    pub nothing_is : (n : ℕ) → (nearest within d n ≡ None) ↔ NoneWithin n
     nothing_is n = (to (outcome n), from (outcome n))
       where
-        to : Outcome n → nearest within d n ≡ Nothing → NoneWithin n
+        to : Outcome n → nearest within d n ≡ None → NoneWithin n
         to (nothing h e) f = h
         to (one k b e) f = absurd (apart k (sym f ∙ e))
 
-        from : Outcome n → NoneWithin n → nearest within d n ≡ Nothing
+        from : Outcome n → NoneWithin n → nearest within d n ≡ None
         from (nothing h e) g = e
         from (one k b e) g = absurd (true≢false (sym b.in_reach ∙ g k b.place))
 
-    pub nearest-is : (n k : ℕ) → nearest within d n ≡ At k → NearestWithin n k
+    pub nearest-is : (n k : ℕ) → nearest within d n ≡ Some k → NearestWithin n k
     nearest-is n k f = to (outcome n)
       where
         to : Outcome n → NearestWithin n k

@@ -1,5 +1,5 @@
 -- A walk over candidates stands at the nearest of those it has tried. Assumes nothing.
-use mathlib.Core.Path.{◌≡◌, refl, sym, ap, ◌∙◌}
+use mathlib.Core.Path.{◌≡◌, refl, sym, ◌∙◌}
 use mathlib.Core.Bool.{Bool, true, false, ◌&&◌}
 use Prim.Native.Nat.{ℕ, zero, suc, ◌+◌, ◌<◌}
 use native.Mathlib.Nat.{add-zero, add-suc, le_refl}
@@ -7,53 +7,64 @@ use native.Mathlib.Omega.{arith}
 use lib.Ieee.{Float, le}
 use Rattle.geom.specs.declared.point.P.{P}
 use Rattle.geom.specs.Point.{len}
-use Rattle.path.specs.declared.limit.Found.{Found}
-use Rattle.path.specs.declared.limit.Found.TheVariants.{At, Nothing}
+use Rattle.std.proofs.Common.{Option, Some, None, option_map}
+use Rattle.hit.specs.declared.best.Candidate.{Candidate}
 use Rattle.hit.specs.declared.best.Best.{Best}
 use Rattle.hit.specs.Best.{beats, counts, taken}
 use Rattle.hit.specs.Tried.{tried}
 use Rattle.hit.specs.Nearest.{nearer, nearest}
 
-pub same_at : (i j : ℕ) → At i ≡ At j → i ≡ j
+pub same_at : (i j : ℕ) → Some i ≡ Some j → i ≡ j
 same_at i j e = cc
 
-pub apart : (j : ℕ) → Nothing ≡ At j → ⊥
+pub apart : (j : ℕ) → None ≡ Some j → ⊥
 apart j e = let z : ◌≡◌ {A = ℕ} 0 1 = cc in omega arith
 
 module _ (within : ℕ → Bool) (d : ℕ → Float) where
+  -- a candidate at its distance
+  abbrev pub candidate : ℕ → Candidate
+  candidate k = record { number = k; dist = d k }
+
   -- b is the nearest of the first n, at its distance
   pub record Stands (n : ℕ) (b : Best) : Type 0 where
-    pub found : b.found ≡ nearest within d n
-    pub dist : (j : ℕ) → b.found ≡ At j → b.dist ≡ d j
+    pub found : b.nearest ≡ option_map candidate (nearest within d n)
 
-  pub stands-none : (b : Best) → b.found ≡ Nothing → Stands 0 b
+  pub stands-none : (b : Best) → b.nearest ≡ None → Stands 0 b
   unfolding nearest
-  stands-none b e = record { found = e; dist = λ j h. absurd (apart j (sym e ∙ h)) }
+  stands-none b e = record { found = e }
+
+  -- its number
+  pub stands_number : (n : ℕ) (b : Best) → Stands n b → option_map (λ (c : Candidate). c.number) b.nearest ≡ nearest within d n
+  stands_number n b s = rw s.found (same-number (nearest within d n))
+    where
+      same-number : (f : Option ℕ) → option_map (λ (c : Candidate). c.number) (option_map candidate f) ≡ f
+      same-number None = refl
+      same-number (Some k) = refl
 
   module _ (n : ℕ) (b : Best) (s : Stands n b) where
     -- a candidate that is not within
     pub stands_skip : within n ≡ false → Stands (suc n) b
     unfolding nearest
-    stands_skip e = record { found = rw e s.found; dist = s.dist }
+    stands_skip e = record { found = rw e s.found }
 
     module _ (tol : Float) (v : P) (w : within n ≡ le (len v) tol) (l : d n ≡ len v) where
-      same_test : (f : Found) → b.found ≡ f → beats f b.dist (len v) ≡ nearer d n f
+      same_test : (f : Option ℕ) → beats (option_map candidate f) (len v) ≡ nearer d n f
       unfolding beats nearer
-      same_test Nothing e = refl
-      same_test (At j) e = rw (s.dist j e, l)
+      same_test None = refl
+      same_test (Some j) = rw l refl
 
       -- the code's test is the definition's
       test : counts tol b v ≡ (within n && nearer d n (nearest within d n))
       unfolding counts
-      test = rw (w, same_test b.found refl, s.found)
+      test = rw (w, s.found, same_test (nearest within d n))
 
       pub stands_more : Stands (suc n) (taken tol b n v)
       unfolding taken nearest
       stands_more = go (counts tol b v) refl
         where
           go : (t : Bool) → counts tol b v ≡ t → Stands (suc n) (taken tol b n v)
-          go true e = rw e (record { found = rw (sym test ∙ e); dist = λ j h. sym l ∙ ap d (same_at n j h) })
-          go false e = rw e (record { found = rw (sym test ∙ e) s.found; dist = s.dist })
+          go true e = rw e (record { found = rw (sym test ∙ e, l) refl })
+          go false e = rw e (record { found = rw (sym test ∙ e) s.found })
 
   -- ---- several candidates
   -- of which none is within

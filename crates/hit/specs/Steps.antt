@@ -1,5 +1,5 @@
 -- The chords of a path's segments, N to a segment, as 000's `hit_segment` tries them. Assumes nothing.
-use Rattle.std.specs.Prelude.{ℕ, ◌+◌, ◌*◌, ◌/◌, ◌%◌, Bool, ◌&&◌, cond, List, Float}
+use Rattle.std.specs.Prelude.{ℕ, ◌+◌, ◌*◌, ◌/◌, ◌%◌, Bool, ◌&&◌, cond, List, Float, Option}
 use Rattle.std.specs.Float.{binary64}
 use Rattle.std.specs.Float.Ieee.{of_bits, lt, le}
 use Rattle.real.specs.Operators.{◌⊕◌, ◌⊖◌, ◌⊗◌, ◌⊘◌, float, 0f, 1f}
@@ -7,7 +7,6 @@ use Rattle.real.specs.StandIns.{clamp}
 use Rattle.geom.specs.declared.point.P.{P}
 use Rattle.geom.specs.Point.{plus, minus, times, dot, len}
 use Rattle.cubic.specs.Sample.{step_at}
-use Rattle.path.specs.declared.limit.Found.{Found}
 use Rattle.path.specs.Flat.{curve_of}
 use Rattle.path.specs.Shape.{count_of, closed_of, total, word_at, start, sub_of, is_segment}
 use Rattle.hit.specs.Located.{index_of}
@@ -59,5 +58,5 @@ module _ (shapes : List ℕ) (anchors : List Float) where
     unfoldable pub chord_within : Float → ℕ → Bool
     chord_within tol i = starts_at shapes (i / N) && le (chord_distance i) tol
 
-    unfoldable pub nearest_chord : Float → Found
+    unfoldable pub nearest_chord : Float → Option ℕ
     nearest_chord tol = nearest (chord_within tol) chord_distance (total shapes * N)

@@ -1,17 +1,20 @@
 // `Best`: the nearest of the candidates tried so far. A root is taken only of a square below the bar, so of few.
-ghost use Rattle.std.specs.Prelude.{◌≡◌, true};
+ghost use Rattle.std.specs.Prelude.{◌≡◌, true, None};
 ghost use Rattle.real.specs.Limit.{in_limit};
-ghost use Rattle.path.specs.declared.limit.Found.TheVariants.{Nothing};
-ghost use Rattle.hit.specs.Best.{beats, taken, Barred};
+ghost use Rattle.hit.specs.Best.{taken, Barred};
 
 use geom::P;
-use path::Found;
 
-#[derive(Clone, Copy)]
-pub struct Best {
-    pub found: Found,
-    // The distance of what was found, else 0.
+// A candidate, and how far away it lies.
+#[derive(Clone, Copy, Debug, PartialEq)]
+pub struct Candidate {
+    pub number: usize,
     pub dist: f64,
+}
+
+#[derive(Clone, Copy, Debug, PartialEq)]
+pub struct Best {
+    pub nearest: Option<Candidate>,
     // A vector whose square is not below it cannot be nearer.
     pub bar: f64,
 }
@@ -20,22 +23,18 @@ impl Best {
     // Nothing yet. The bar is guessed, a little above tol's square, and its root compared with tol: nothing rests on the guess.
     pub fn nothing(tol: f64) -> Best
         requires { in_limit tol ≡ true }
-        ensures found { result.found ≡ Nothing }
+        ensures found { result.nearest ≡ None }
         ensures bar { Barred tol result }
     {
         let near = tol * 1.0000001;
         let guess = near * near + 1e-300;
-        if tol < root::root(guess) {
-            return Best {
-                found: Found::Nothing,
-                dist: 0.0,
-                bar: guess,
-            };
-        }
         Best {
-            found: Found::Nothing,
-            dist: 0.0,
-            bar: f64::from_bits(0x7ff0_0000_0000_0000),
+            nearest: None,
+            bar: if tol < root::root(guess) {
+                guess
+            } else {
+                f64::INFINITY
+            },
         }
     }
 
@@ -49,28 +48,17 @@ impl Best {
         if self.bar <= square {
             return self;
         }
-        let length = root::root(square);
-        if !(length <= tol) {
+        let dist = root::root(square);
+        // Kept: two returns; one test with an `else` was tried, and `hit_segment` took 8 per cent longer.
+        if !(dist <= tol) {
             return self;
         }
-        let found = self.found;
-        if !beats(found, self.dist, length) {
+        if !self.nearest.is_none_or(|c| dist < c.dist) {
             return self;
         }
         Best {
-            found: Found::At(i),
-            dist: length,
+            nearest: Some(Candidate { number: i, dist }),
             bar: square,
         }
-    }
-}
-
-// Whether a distance is below that of what was found.
-fn beats(found: Found, least: f64, length: f64) -> bool
-    ensures { result ≡ beats found least length }
-{
-    match found {
-        Found::Nothing => true,
-        Found::At(_) => length < least,
     }
 }

@@ -8,20 +8,20 @@ use geom::P;
 pub fn along(q: P, a: P, b: P) -> f64
     ensures { result ≡ along q a b }
 {
-    let d = b.sub(a);
+    let d = b - a;
     let square = d.dot(d);
     if 1e-12 < square {
-        return real::clamp(q.sub(a).dot(d) / square, 0.0, 1.0);
+        real::clamp((q - a).dot(d) / square, 0.0, 1.0)
+    } else {
+        0.0
     }
-    0.0
 }
 
 // From q to that point.
 pub fn offset(q: P, a: P, b: P) -> P
     ensures { result ≡ offset q a b }
 {
-    let u = along(q, a, b);
-    a.add(b.sub(a).mul(u)).sub(q)
+    a + (b - a) * along(q, a, b) - q
 }
 
 // The parameter, on the curve, of the point of chord j of n nearest q.

@@ -1,28 +1,21 @@
-// `Located`: a place of a path as a subpath and an anchor of it.
+// A place of a path as a subpath and an anchor of it.
 ghost use Rattle.std.specs.Prelude.{◌≡◌, ◌<◌};
 ghost use Rattle.path.specs.Shape.{total};
 ghost use Rattle.hit.specs.Located.{located};
 
-use path::count_of;
+use path::{AnchorRef, count_of};
 
-#[derive(Clone, Copy)]
-pub struct Located {
-    pub subpath: usize,
-    pub anchor: usize,
-}
-
-pub fn locate(shapes: &[u32], k: usize) -> Located
+pub fn locate(shapes: &[u32], k: usize) -> AnchorRef
     requires { k < total shapes.now }
     ensures { result ≡ located shapes.now k }
 {
-    let mut s: usize = 0;
-    let mut rest = k;
-    while rest >= count_of(shapes[s]) {
-        rest -= count_of(shapes[s]);
-        s += 1;
+    let mut anchor = k;
+    for (subpath, word) in shapes.iter().enumerate() {
+        let n = count_of(*word);
+        if anchor < n {
+            return AnchorRef { subpath, anchor };
+        }
+        anchor -= n;
     }
-    Located {
-        subpath: s,
-        anchor: rest,
-    }
+    unreachable!()
 }

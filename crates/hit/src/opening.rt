@@ -11,21 +11,14 @@ use geom::P;
 fn query_in(q: P, tol: f64) -> bool
     ensures { result ≡ query_in q tol }
 {
-    if !real::in_limit(q.x) {
-        return false;
-    }
-    if !real::in_limit(q.y) {
-        return false;
-    }
-    real::in_limit(tol)
+    q.in_limit() && real::in_limit(tol)
 }
 
 // How many anchors the path has, or the refusal.
 pub fn open_hit(shapes: &[u32], anchors: &[f64], q: P, tol: f64) -> Opened
     ensures { result ≡ opened (hit_verdict shapes.now anchors.now q tol) (total shapes.now) }
 {
-    let path = call::open_path(512, shapes, anchors);
-    match path {
+    match call::open_path(512, shapes, anchors) {
         Opened::Refused(code, place) => Opened::Refused(code, place),
         Opened::Anchors(n) => {
             if query_in(q, tol) {

@@ -1,8 +1,7 @@
 // `hit_segment`: the point of a path nearest another, within a tolerance, by 48 chords to a segment.
-ghost use Rattle.std.specs.Prelude.{◌≡◌, true, ◌+◌, ◌*◌, ◌≤◌, ◌<◌, length};
+ghost use Rattle.std.specs.Prelude.{◌≡◌, true, ◌+◌, ◌*◌, ◌≤◌, ◌<◌, Some, length};
 ghost use Rattle.real.specs.Limit.{in_limit};
 ghost use Rattle.refusal.specs.Order.{accepted};
-ghost use Rattle.path.specs.declared.limit.Found.TheVariants.{At};
 ghost use Rattle.path.specs.Shape.{total};
 ghost use Rattle.hit.specs.Best.{Barred};
 ghost use Rattle.hit.specs.Steps.{step_offset, nearest_chord};
@@ -15,7 +14,6 @@ use crate::located::locate;
 use crate::opening::open_hit;
 use call::Opened;
 use geom::P;
-use path::Found;
 
 // A refusal's number and place, nothing, or a subpath, the anchor at which the segment starts, and the parameter along it.
 #[derive(Clone, Copy)]
@@ -26,19 +24,18 @@ pub enum HitSegment {
 }
 
 // The best after the chords of a curve, candidates i to i + 47. Each point of the curve is computed once.
-fn try_curve(c: [P; 4], i: usize, q: P, tol: f64, best: Best) -> Best
+fn try_curve(c: [P; 4], i: usize, q: P, tol: f64, mut best: Best) -> Best
     requires { (Barred tol best) × (i ≤ 65536) }
     ensures best { result ≡ tried tol i (step_offset 48 q c) best 48 }
     ensures bar { Barred tol result }
 {
-    let mut b = best;
     let mut from = cubic::step_at(c, 48, 0);
     for j in 0..48 {
         let to = cubic::step_at(c, 48, j + 1);
-        b = b.take(i + j, offset(q, from, to), tol);
+        best = best.take(i + j, offset(q, from, to), tol);
         from = to;
     }
-    b
+    best
 }
 
 // The best after the segments of a subpath of n anchors, the first of which is at place k.
@@ -49,63 +46,56 @@ fn try_subpath(
     closed: bool,
     q: P,
     tol: f64,
-    best: Best,
+    mut best: Best,
 ) -> Best
     requires { (Barred tol best) × (k + n ≤ 512) × ((k + n) * 6 ≤ length anchors.now) }
     ensures best { result ≡ tried_from tol 48 q anchors.now k n closed best n }
     ensures bar { Barred tol result }
 {
-    let mut b = best;
     for a in 0..n {
-        if !path::has_segment(n, closed, a) {
-            continue;
+        if path::has_segment(n, closed, a) {
+            best = try_curve(path::curve_at(anchors, k, n, a), (k + a) * 48, q, tol, best);
         }
-        b = try_curve(path::curve_at(anchors, k, n, a), (k + a) * 48, q, tol, b);
     }
-    b
+    best
 }
 
 // The number of the nearest chord.
-fn nearest_chord(shapes: &[u32], anchors: &[f64], q: P, tol: f64) -> Found
+fn nearest_chord(shapes: &[u32], anchors: &[f64], q: P, tol: f64) -> Option<usize>
     requires { (length shapes.now ≤ 32) × (total shapes.now ≤ 512) × (total shapes.now * 6 ≤ length anchors.now) × (in_limit tol ≡ true) }
     ensures { result ≡ nearest_chord shapes.now anchors.now 48 q tol }
 {
     let mut best = Best::nothing(tol);
-    let mut k: usize = 0;
-    for s in 0..shapes.len() {
-        let n = path::count_of(shapes[s]);
-        best = try_subpath(anchors, k, n, path::closed_of(shapes[s]), q, tol, best);
+    let mut k = 0;
+    for word in shapes {
+        let n = path::count_of(*word);
+        best = try_subpath(anchors, k, n, path::closed_of(*word), q, tol, best);
         k += n;
     }
-    best.found
+    best.nearest.map(|c| c.number)
 }
 
 // Chord i as an answer.
 fn hit_chord(shapes: &[u32], anchors: &[f64], q: P, i: usize) -> HitSegment
     requires { (i < total shapes.now * 48) × (total shapes.now ≤ 512) × (total shapes.now * 6 ≤ length anchors.now) }
-    ensures { result ≡ segment_answer 48 shapes.now anchors.now q accepted (At i) }
+    ensures { result ≡ segment_answer 48 shapes.now anchors.now q accepted (Some i) }
 {
     let k = i / 48;
     let at = locate(shapes, k);
-    let s = at.subpath;
-    let a = at.anchor;
-    let c = path::curve_at(anchors, k - a, path::count_of(shapes[s]), a);
-    HitSegment::At(s, a, parameter(48, q, c, i % 48))
+    let n = path::count_of(shapes[at.subpath]);
+    let c = path::curve_at(anchors, k - at.anchor, n, at.anchor);
+    HitSegment::At(at.subpath, at.anchor, parameter(48, q, c, i % 48))
 }
 
 // The point of the path nearest q, where it is not farther than tol, the first on ties.
 pub fn hit_segment(shapes: &[u32], anchors: &[f64], q: P, tol: f64) -> HitSegment
     ensures { result ≡ hit_segment_answer shapes.now anchors.now q tol }
 {
-    let path = open_hit(shapes, anchors, q, tol);
-    match path {
+    match open_hit(shapes, anchors, q, tol) {
         Opened::Refused(code, place) => HitSegment::Refused(code, place),
-        Opened::Anchors(_) => {
-            let chord = nearest_chord(shapes, anchors, q, tol);
-            match chord {
-                Found::Nothing => HitSegment::Nothing,
-                Found::At(i) => hit_chord(shapes, anchors, q, i),
-            }
-        }
+        Opened::Anchors(_) => match nearest_chord(shapes, anchors, q, tol) {
+            None => HitSegment::Nothing,
+            Some(i) => hit_chord(shapes, anchors, q, i),
+        },
     }
 }

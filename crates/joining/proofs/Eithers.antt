@@ -8,25 +8,18 @@ use native.Mathlib.Omega.{arith}
 use lib.Dec.{leb}
 use lib.ListN.{length}
 use lib.Ieee.{Float}
-use borrow.Author.Tests.{leb-true, lt-ltb, le-ltb, le-leb, lt-leb}
+use borrow.Author.Tests.{leb-true, lt-ltb, le-ltb, le-leb}
 use Rattle.views.proofs.Laws.{order}
 use Rattle.path.specs.Limit.{anchor_in, first_bad}
-use Rattle.path.specs.declared.limit.Found.TheVariants.{At, Nothing}
+use Rattle.std.proofs.Common.{Some, None}
 use Rattle.path.proofs.Limits.{GoodBelow, first_is, none_is}
 use Rattle.joining.specs.Call.{list_fits, either_in}
 
 -- ---- 7
 module _ (n : ℕ) (xs : List Float) where
-  pub too_many : 512 < n → list_fits n xs ≡ false
-  unfolding list_fits
-  too_many h = rw (lt-leb n 512 h)
-
-  pub by_length : n ≤ 512 → list_fits n xs ≡ leb (n * 6) (length xs)
-  unfolding list_fits
-  by_length h = rw (le-leb n 512 h)
-
   pub fits : n ≤ 512 → n * 6 ≤ length xs → list_fits n xs ≡ true
-  fits h l = by_length h ∙ le-leb (n * 6) (length xs) l
+  unfolding list_fits
+  fits h l = rw (le-leb n 512 h, le-leb (n * 6) (length xs) l)
 
   pub fits_says : list_fits n xs ≡ true → (n ≤ 512) × (n * 6 ≤ length xs)
   unfolding list_fits
@@ -63,7 +56,7 @@ module _ (drawn : List Float) (count : ℕ) (target : List Float) where
 
   -- by what the two searches found
   module _ (n : ℕ) where
-    pub bad_drawn : (k : ℕ) → first_bad (anchor_in drawn) count ≡ At k → At k ≡ first_bad (either_in drawn count target) (count + n)
+    pub bad_drawn : (k : ℕ) → first_bad (anchor_in drawn) count ≡ Some k → Some k ≡ first_bad (either_in drawn count target) (count + n)
     bad_drawn k e =
         let l = (first_is (anchor_in drawn) count k).0 e in
         let p = l.place in
@@ -73,8 +66,8 @@ module _ (drawn : List Float) (count : ℕ) (target : List Float) where
           below = λ j h. at_drawn j (omega arith) ∙ l.below j h;
         }))
 
-    module _ (e : first_bad (anchor_in drawn) count ≡ Nothing) where
-      pub bad_target : (k : ℕ) → first_bad (anchor_in target) n ≡ At k → At (count + k) ≡ first_bad (either_in drawn count target) (count + n)
+    module _ (e : first_bad (anchor_in drawn) count ≡ None) where
+      pub bad_target : (k : ℕ) → first_bad (anchor_in target) n ≡ Some k → Some (count + k) ≡ first_bad (either_in drawn count target) (count + n)
       bad_target k f =
           let l = (first_is (anchor_in target) n k).0 f in
           let p = l.place in
@@ -84,6 +77,6 @@ module _ (drawn : List Float) (count : ℕ) (target : List Float) where
             below = both_good k ((none_is (anchor_in drawn) count).0 e) l.below;
           }))
 
-      pub bad_nowhere : first_bad (anchor_in target) n ≡ Nothing → Nothing ≡ first_bad (either_in drawn count target) (count + n)
+      pub bad_nowhere : first_bad (anchor_in target) n ≡ None → None ≡ first_bad (either_in drawn count target) (count + n)
       bad_nowhere f =
           sym ((none_is (either_in drawn count target) (count + n)).1 (both_good n ((none_is (anchor_in drawn) count).0 e) ((none_is (anchor_in target) n).0 f)))

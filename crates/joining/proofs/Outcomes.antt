@@ -13,7 +13,7 @@ use Rattle.views.proofs.Bools.{and_false}
 use Rattle.refusal.specs.Order.{passes, fails, holds, accepted, refused}
 use Rattle.refusal.proofs.Verdicts.{holds_true, holds_false, by_lists, by_arguments, by_reference, by_capacity, by_result, by_output, by_none}
 use Rattle.path.specs.declared.anchor.Anchor.{Anchor}
-use Rattle.path.specs.declared.limit.Found.TheVariants.{At}
+use Rattle.std.proofs.Common.{Some}
 use Rattle.path.specs.Shape.{count_of, word_of}
 use Rattle.path.specs.Flat.{anchor_at, listed}
 use Rattle.path.specs.Limit.{anchor_good, first_bad}
@@ -56,7 +56,7 @@ module _ (drawn : List Float) (count : ℕ) (target : List Float) (word : ℕ) (
     lists_pass = holds_true 0 (rw (fits count drawn few long, fits (count_of word) target few-t long-t))
 
     -- ---- 5
-    pub out_of_limit : (k : ℕ) → first_bad (either_in drawn count target) (count + count_of word) ≡ At k → join_verdict drawn count target word at_start to_shapes to ≡ refused 5 k
+    pub out_of_limit : (k : ℕ) → first_bad (either_in drawn count target) (count + count_of word) ≡ Some k → join_verdict drawn count target word at_start to_shapes to ≡ refused 5 k
     unfolding join_verdict
     out_of_limit k e =
         by_arguments _ _ _ _ _ _ lists_pass k (places_fail (either_in drawn count target) (count + count_of word) passes k ((first_is (either_in drawn count target) (count + count_of word) k).0 e))

@@ -6,38 +6,25 @@ ghost use Rattle.joining.specs.Joined.{target_at, target_rest, landed, joint_of}
 
 use path::Anchor;
 
-// How many of the drawn anchors stand before the joint: all but the last.
-pub fn before_joint(count: usize) -> usize
-    ensures { result ≡ count - 1 }
-{
-    if count == 0 {
-        return 0;
-    }
-    count - 1
-}
-
 // Anchor k of the target's n, from its start or from its end.
 pub fn target_at(target: &[f64], n: usize, at_start: bool, k: usize) -> Anchor
     requires { (k < n) × (n ≤ 512) × (n * 6 ≤ length target.now) }
     ensures { result ≡ target_at target.now n at_start k }
 {
     if at_start {
-        return path::anchor_at(target, k);
+        path::anchor_at(target, k)
+    } else {
+        edit::turned(path::anchor_at(target, n - 1 - k))
     }
-    edit::turned(path::anchor_at(target, n - 1 - k))
 }
 
 // The anchor a, with the handle in that `last` arrives with.
 fn landed(last: Anchor, a: Anchor) -> Anchor
     ensures { result ≡ landed last a }
 {
-    let p = a.p;
-    let h_out = a.h_out;
-    let h_in = last.h_in.add(p.sub(last.p));
     Anchor {
-        p: p,
-        h_in: h_in,
-        h_out: h_out,
+        h_in: last.h_in + (a.p - last.p),
+        ..a
     }
 }
 
@@ -47,9 +34,10 @@ pub fn joint_of(drawn: &[f64], count: usize, first: Anchor) -> Anchor
     ensures { result ≡ joint_of drawn.now count first }
 {
     if count == 0 {
-        return first;
+        first
+    } else {
+        landed(path::anchor_at(drawn, count - 1), first)
     }
-    landed(path::anchor_at(drawn, count - 1), first)
 }
 
 // Puts the anchors of the target after its first, from place `from` on.
@@ -58,8 +46,7 @@ fn put_rest(target: &[f64], n: usize, at_start: bool, from: usize, to: &mut [f64
     ensures { to.new ≡ put_all to.old from (target_rest target.now n at_start) }
 {
     for k in 0..n - 1 {
-        let a = target_at(target, n, at_start, k + 1);
-        path::put_anchor(to, from + k, a);
+        path::put_anchor(to, from + k, target_at(target, n, at_start, k + 1));
     }
 }
 

@@ -4,10 +4,9 @@ ghost use Rattle.path.specs.Shape.{count_of};
 ghost use Rattle.path.proofs.Limits.{GoodBelow};
 ghost use Rattle.joining.specs.Call.{either_in, join_answer, join_shapes_left, join_anchors_left};
 
-use crate::anchors::{before_joint, joint_of, put_joined, target_at};
+use crate::anchors::{joint_of, put_joined, target_at};
 use crate::limits::{first_bad_either, list_fits};
 use call::Outline;
-use path::Found;
 
 // Of two lists that passed 7 and 5.
 fn join_opened(
@@ -28,7 +27,7 @@ fn join_opened(
     if n == 0 {
         return Outline::Refused(refusal::REFERENCE, 0);
     }
-    let before = before_joint(count);
+    let before = count.saturating_sub(1);
     if before + n > 512 {
         return Outline::Refused(refusal::CAPACITY, 0);
     }
@@ -37,10 +36,7 @@ fn join_opened(
     if !joint.in_limit() {
         return Outline::Refused(refusal::RESULT, before);
     }
-    if to_shapes.len() < 1 {
-        return Outline::Refused(refusal::OUTPUT, 0);
-    }
-    if to.len() < (before + n) * 6 {
+    if to_shapes.is_empty() || to.len() < (before + n) * 6 {
         return Outline::Refused(refusal::OUTPUT, 0);
     }
     to_shapes[0] = path::word(before + n, false);
@@ -64,14 +60,10 @@ pub fn join(
     ensures anchors { to.new ≡ join_anchors_left drawn.now drawn_count target.now target_word at_start to_shapes.old to.old }
 {
     let n = path::count_of(target_word);
-    if !list_fits(drawn_count, drawn) {
+    if !list_fits(drawn_count, drawn) || !list_fits(n, target) {
         return Outline::Refused(refusal::LISTS, 0);
     }
-    if !list_fits(n, target) {
-        return Outline::Refused(refusal::LISTS, 0);
-    }
-    let bad = first_bad_either(drawn, drawn_count, target, n);
-    if let Found::At(k) = bad {
+    if let Some(k) = first_bad_either(drawn, drawn_count, target, n) {
         return Outline::Refused(refusal::ARGUMENTS, k);
     }
     join_opened(

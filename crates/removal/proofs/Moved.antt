@@ -1,7 +1,7 @@
 -- Laws of the subpaths that stay, moved down over those that go: one subpath more, and what both lists hold in the end. Assumes nothing.
 use mathlib.Core.Path.{◌≡◌, refl, sym, ap, ap₂, ◌∙◌}
 use mathlib.Core.Logic.{⊎_elim}
-use mathlib.Core.Bool.{Bool, true, false, cond}
+use mathlib.Core.Bool.{Bool, true, false, not, cond}
 use mathlib.Core.List.{List, [], ◌∷◌, ◌++◌, append-nil}
 use Prim.Native.Nat.{ℕ, zero, suc, ◌+◌, ◌*◌, ◌≤◌, ◌<◌}
 use native.Mathlib.Nat.{le_refl}
@@ -17,11 +17,12 @@ use Rattle.path.specs.declared.anchor.Anchor.{Anchor}
 use Rattle.path.specs.Flat.{anchor_at, put_anchor, put_all, listed}
 use Rattle.path.specs.Shape.{count_of, total, word_at, start}
 use Rattle.path.proofs.Shapes.{total-next, total_in, total-end}
+use Rattle.path.proofs.Places.{length-put, put_keep}
 use Rattle.path.proofs.Puts.{put_next, put-listed}
 use Rattle.call.specs.declared.answers.Outline.TheVariants.{Accepted}
 use Rattle.removal.specs.Deleted.{retained, subpath_left, subpath_stays, word_left, words_up_to, anchors_up_to, kept_words, kept_anchors}
 use Rattle.removal.specs.Marks.{kept_at, kept_in}
-use Rattle.removal.proofs.Retained.{retained-count, retained_most, retained-same}
+use Rattle.removal.proofs.Retained.{retained_kept, retained_gone, retained-count, retained_most, retained-same}
 
 -- ---- one anchor moved
 -- an anchor of lists that agree from place n on
@@ -29,9 +30,40 @@ pub at_past : (ys xs : List Float) (n k : ℕ) → n ≤ k → ((j : ℕ) → n 
 at_past ys xs n k l h =
     rw (h (k * 6) (omega arith), h (k * 6 + 1) (omega arith), h (k * 6 + 2) (omega arith), h (k * 6 + 3) (omega arith), h (k * 6 + 4) (omega arith), h (k * 6 + 5) (omega arith))
 
-pub put_one : (xs ys : List Float) (k : ℕ) (a b : Anchor) → ys ≡ put_anchor xs k a → a ≡ b → ys ≡ put_all xs k (b ∷ [])
+put_one : (xs ys : List Float) (k : ℕ) (a b : Anchor) → ys ≡ put_anchor xs k a → a ≡ b → ys ≡ put_all xs k (b ∷ [])
 unfolding put_all
 put_one xs ys k a b e f = e ∙ ap (put_anchor xs k) f
+
+-- ---- of the first i anchors from place `first` on, those that are kept moved to `at`: the next goes to `next`
+module _ (gone : List Bool) (xs : List Float) (first at : ℕ) where
+  abbrev here : ℕ → List Anchor
+  here = retained (λ k. kept_at gone (first + k)) (λ k. anchor_at xs (first + k))
+
+  abbrev pub MovedTo : List Float → ℕ → ℕ → Type 0
+  MovedTo ys next i =
+      (next ≤ first + i) × (length ys ≡ length xs) × (next ≡ at + length (here i)) × (ys ≡ put_all xs at (here i)) × ((j : ℕ) → next * 6 ≤ j → entry ys j ≡ entry xs j)
+
+  pub moved_none : at ≤ first → MovedTo xs at 0
+  unfolding retained put_all
+  moved_none l = (omega arith, refl, omega arith, refl, λ j h. refl)
+
+  module _ (ys : List Float) (next i : ℕ) (m : MovedTo ys next i) where
+    pub moved_gone : get_or gone (first + i) false ≡ true → MovedTo ys next (i + 1)
+    moved_gone g =
+        let e = retained_gone (λ k. kept_at gone (first + k)) (λ k. anchor_at xs (first + k)) i (ap not g) in
+        (omega (arith, m.0), m.1, rw e m.2, rw e m.3, m.4)
+
+    pub moved_kept : get_or gone (first + i) false ≡ false → (zs : List Float) → zs ≡ put_anchor ys next (anchor_at ys (first + i)) → MovedTo zs (next + 1) (i + 1)
+    moved_kept g zs p =
+        let f = anchor_at xs (first + i) in
+        let e = retained_kept (λ k. kept_at gone (first + k)) (λ k. anchor_at xs (first + k)) i (ap not g) in
+        let n = ap length e ∙ length-append (here i) (f ∷ []) in (
+          omega (arith, m.0),
+          ap length p ∙ length-put ys next _ ∙ m.1,
+          omega (arith, m.2, n),
+          rw e (put_next xs ys zs at next (here i) (f ∷ []) m.2 m.3 (put_one ys zs next (anchor_at ys (first + i)) f p (at_past ys xs next (first + i) m.0 m.4))),
+          λ j h. ap (λ z. entry z j) p ∙ put_keep ys next _ xs m.4 j h,
+        )
 
 -- ---- the words and anchors that are kept
 module _ (shapes : List ℕ) (anchors : List Float) (keep : ℕ → ℕ → Bool) where
@@ -135,6 +167,13 @@ module _ (shapes : List ℕ) (anchors : List Float) (keep : ℕ → ℕ → Bool
     -- the words not yet read are as they were
     pub word_here : (j : ℕ) → s ≤ j → get_or ws j 0 ≡ word_at shapes j
     word_here j l = h.rest j (omega (arith, h.words_count, words_most s))
+
+    -- subpath s read, its first anchor at `first`: its count, and that no place is written before it is read
+    pub read : s < length shapes → (first m : ℕ) → first ≡ start shapes s → m ≡ count_of (get_or ws s 0)
+        → (m ≡ count_of (word_at shapes s)) × (first + m ≤ total shapes) × (n ≤ s) × (at ≤ first)
+    read l first m e f =
+        let g = f ∙ ap count_of (word_here s (le_refl s)) in
+        (g, omega (arith, e, g, total_in shapes s l), omega (arith, h.words_count, words_most s), omega (arith, e, h.anchors_count, anchors_most s (omega arith)))
 
     module _ (l : s ≤ length shapes) (long : total shapes * 6 ≤ length anchors) where
       fits : length (kept s) * 6 ≤ length anchors

@@ -2,15 +2,16 @@
 use mathlib.Core.Path.{◌≡◌, refl, sym, ap, ◌∙◌}
 use mathlib.Core.Logic.{⊎_elim}
 use mathlib.Core.Bool.{Bool, true, false, not, ◌&&◌}
-use mathlib.Core.List.{List, [], ◌∷◌}
-use Prim.Native.Nat.{ℕ, zero, suc, ◌+◌, ◌<◌}
+use mathlib.Core.List.{List, [], ◌∷◌, ◌++◌}
+use Prim.Native.Nat.{ℕ, zero, suc, ◌+◌, ◌*◌, ◌≤◌, ◌<◌}
 use native.Mathlib.Nat.{le_of_suc-le-suc, not-suc-le-zero}
 use native.Mathlib.Numerals.{add-one}
 use native.Mathlib.Omega.{arith}
 use lib.Dec.{eqb}
-use lib.ListN.{length, get_or, set, replicate}
-use lib.Seq.{get_or-set_same, get_or-set_other}
+use lib.ListN.{length, length-append, get_or, get_or-append, set, replicate, drop}
+use lib.Seq.{drop-append_seam, get_or-set_same, get_or-set_other}
 use borrow.Author.Tests.{eqb-true, eq-eqb}
+use Rattle.std.proofs.lemmas.List.{drop-drop, length-drop, get_or-drop}
 use Rattle.views.specs.Search.{all}
 use Rattle.views.proofs.Laws.{same}
 use Rattle.views.proofs.Searches.{all_false}
@@ -28,6 +29,20 @@ one_anchor (w ∷ ws) (suc s) zero a b l m h k e = absurd (omega arith)
 one_anchor (w ∷ ws) (suc s) (suc t) a b l m h k e =
     let r = one_anchor ws s t a b (le_of_suc-le-suc l) (le_of_suc-le-suc m) h k (omega arith) in
     (ap suc r.0, r.1)
+
+-- ---- the next pair of a list that is passed two numbers at a time
+pub pair_next : (which : List ℕ) (i : ℕ) (xs rest : List ℕ) → i * 2 ≤ length which → drop (i * 2) which ≡ xs ++ rest → length xs ≡ 2
+    → (rest ≡ drop ((i + 1) * 2) which) × ((i + 1) * 2 ≤ length which) × (get_or xs 0 0 ≡ named_subpath which i) × (get_or xs 1 0 ≡ named_anchor which i)
+pair_next which i xs rest l e two =
+    let past : i * 2 + length xs ≡ (i + 1) * 2 = omega arith in (
+      sym (drop-append_seam xs rest) ∙ ap (drop (length xs)) (sym e) ∙ drop-drop (length xs) (i * 2) which ∙ ap (λ n. drop n which) past,
+      omega (arith, length-drop (i * 2) which, ap length e, length-append xs rest),
+      entry 0 (2 * i) (omega arith) (omega arith),
+      entry 1 (2 * i + 1) (omega arith) (omega arith),
+    )
+  where
+    entry : (k j : ℕ) → k < length xs → i * 2 + k ≡ j → get_or xs k 0 ≡ get_or which j 0
+    entry k j h f = sym (get_or-append xs rest 0 k h) ∙ ap (λ ys. get_or ys k 0) (sym e) ∙ get_or-drop (i * 2) which k 0 ∙ ap (λ n. get_or which n 0) f
 
 -- ---- one pair more
 all-suc : (p : ℕ → Bool) (n : ℕ) → p n ≡ true → all p (suc n) ≡ all p n

@@ -5,7 +5,7 @@ ghost use Rattle.call.specs.declared.opening.Opened.TheVariants.{Anchors};
 ghost use Rattle.call.specs.Tests.{opened_path};
 ghost use Rattle.removal.specs.Deleted.{whole_pairs, delete_answer, delete_shapes_left, delete_anchors_left};
 
-use crate::marking::mark_gone;
+use crate::marking::marks;
 use crate::moving::move_down;
 use call::{Opened, Outline};
 
@@ -16,10 +16,9 @@ fn delete_opened(shapes: &mut [u32], anchors: &mut [f64], which: &[u32]) -> Outl
     ensures shapes { shapes.new ≡ delete_shapes_left shapes.old anchors.old which.now }
     ensures anchors { anchors.new ≡ delete_anchors_left shapes.old anchors.old which.now }
 {
-    let mut gone = [false; 512];
-    if !mark_gone(shapes, which, &mut gone) {
+    let Some(gone) = marks(shapes, which) else {
         return Outline::Refused(refusal::REFERENCE, 0);
-    }
+    };
     move_down(shapes, anchors, &gone)
 }
 
@@ -33,8 +32,7 @@ pub fn delete(shapes: &mut [u32], anchors: &mut [f64], which: &[u32]) -> Outline
     if which.len() % 2 != 0 {
         return Outline::Refused(refusal::LISTS, 0);
     }
-    let opened = call::open_path(512, shapes, anchors);
-    match opened {
+    match call::open_path(512, shapes, anchors) {
         Opened::Refused(c, k) => Outline::Refused(c, k),
         Opened::Anchors(_) => delete_opened(shapes, anchors, which),
     }

@@ -1,5 +1,5 @@
 // `delete`, after 000: anchors that references name go, and every subpath that has too few left.
-#![tactic(auto)]
+#![tactic(auto, unfolding(crate::specs::Deleted::suffices))]
 
 mod deletion;
 mod marking;

@@ -1,5 +1,5 @@
 // Which anchors of a path go: those that references name.
-ghost use Rattle.std.specs.Prelude.{◌≡◌, true, false, ℕ, ◌≤◌, length, get_or};
+ghost use Rattle.std.specs.Prelude.{◌≡◌, true, false, ◌≤◌, length, MatchOption};
 ghost use Rattle.views.specs.View.{overwrite};
 ghost use Rattle.views.specs.Search.{all};
 ghost use Rattle.path.specs.Shape.{total, start};
@@ -11,28 +11,28 @@ fn fill_starts(shapes: &[u32], starts: &mut [usize])
     requires { (length shapes.now ≤ length starts.old) × (total shapes.now ≤ 512) }
     ensures { starts.new ≡ overwrite (length shapes.now) (start shapes.now) starts.old }
 {
-    let mut first: usize = 0;
-    for s in 0..shapes.len() {
+    let mut first = 0;
+    for (s, word) in shapes.iter().enumerate() {
         starts[s] = first;
-        first += path::count_of(shapes[s]);
+        first += path::count_of(*word);
     }
 }
 
-// Whether every reference points to an anchor. Then the place of each that one points to is marked.
-pub fn mark_gone(shapes: &[u32], which: &[u32], gone: &mut [bool]) -> bool
-    requires { (length shapes.now ≤ 32) × (total shapes.now ≤ 512) × (total shapes.now ≤ length gone.old) × ((k : ℕ) → get_or gone.old k false ≡ false) }
-    ensures known { result ≡ all (points_in shapes.now which.now) (pairs which.now) }
-    ensures marks { result ≡ true → Marked shapes.now which.now (pairs which.now) gone.new }
+// Marks at the places of the anchors that the references name, unless one of them points to no anchor.
+pub fn marks(shapes: &[u32], which: &[u32]) -> Option<[bool; 512]>
+    requires { (length shapes.now ≤ 32) × (total shapes.now ≤ 512) }
+    ensures { MatchOption result (all (points_in shapes.now which.now) (pairs which.now) ≡ false) (λ gone. (length gone ≡ 512) × (all (points_in shapes.now which.now) (pairs which.now) ≡ true) × Marked shapes.now which.now (pairs which.now) gone) }
 {
     let mut starts = [0usize; 32];
     fill_starts(shapes, &mut starts);
-    for i in 0..which.len() / 2 {
-        let s = which[2 * i] as usize;
-        let k = which[2 * i + 1] as usize;
+    let mut gone = [false; 512];
+    for pair in which.chunks_exact(2) {
+        let s = pair[0] as usize;
+        let k = pair[1] as usize;
         if !path::has_anchor(shapes, s, k) {
-            return false;
+            return None;
         }
         gone[starts[s] + k] = true;
     }
-    true
+    Some(gone)
 }

@@ -15,14 +15,7 @@ fn count_kept(gone: &[bool], first: usize, n: usize) -> usize
     requires { (first + n ≤ 512) × (first + n ≤ length gone.now) }
     ensures { result ≡ count (λ k. kept_at gone.now (first + k)) n }
 {
-    let mut kept: usize = 0;
-    for k in 0..n {
-        if gone[first + k] {
-            continue;
-        }
-        kept += 1;
-    }
-    kept
+    gone[first..first + n].iter().filter(|mark| !**mark).count()
 }
 
 // Puts those of the n anchors from place `first` on that are kept to place `at` and after it. No place is written before it is read.
@@ -31,13 +24,12 @@ fn move_kept(anchors: &mut [f64], gone: &[bool], first: usize, n: usize, at: usi
     ensures { anchors.new ≡ put_all anchors.old at (retained (λ k. kept_at gone.now (first + k)) (λ k. anchor_at anchors.old (first + k)) n) }
 {
     let mut next = at;
-    for k in 0..n {
-        if gone[first + k] {
-            continue;
+    for k in first..first + n {
+        if !gone[k] {
+            let a = path::anchor_at(anchors, k);
+            path::put_anchor(anchors, next, a);
+            next += 1;
         }
-        let a = path::anchor_at(anchors, first + k);
-        path::put_anchor(anchors, next, a);
-        next += 1;
     }
 }
 
@@ -45,10 +37,7 @@ fn move_kept(anchors: &mut [f64], gone: &[bool], first: usize, n: usize, at: usi
 fn suffices(closed: bool, n: usize) -> bool
     ensures { result ≡ suffices closed n }
 {
-    if closed {
-        return n >= 3;
-    }
-    n >= 2
+    n >= if closed { 3 } else { 2 }
 }
 
 // Leaves the subpaths that stay in front of both lists.
@@ -58,22 +47,21 @@ pub fn move_down(shapes: &mut [u32], anchors: &mut [f64], gone: &[bool]) -> Outl
     ensures shapes { shapes.new ≡ overwrite (length (kept_words shapes.old anchors.old (kept_in shapes.old gone.now))) (word_at (kept_words shapes.old anchors.old (kept_in shapes.old gone.now))) shapes.old }
     ensures anchors { anchors.new ≡ listed (kept_anchors shapes.old anchors.old (kept_in shapes.old gone.now)) anchors.old }
 {
-    let mut first: usize = 0;
-    let mut at: usize = 0;
-    let mut words: usize = 0;
+    let mut first = 0;
+    let mut at = 0;
+    let mut words = 0;
+    // Kept: by index, since the words move down in the list that is read.
     for s in 0..shapes.len() {
         let n = path::count_of(shapes[s]);
         let closed = path::closed_of(shapes[s]);
-        let from = first;
-        first += n;
-        let left = count_kept(gone, from, n);
-        if !suffices(closed, left) {
-            continue;
+        let left = count_kept(gone, first, n);
+        if suffices(closed, left) {
+            move_kept(anchors, gone, first, n, at);
+            shapes[words] = path::word(left, closed);
+            words += 1;
+            at += left;
         }
-        move_kept(anchors, gone, from, n, at);
-        shapes[words] = path::word(left, closed);
-        words += 1;
-        at += left;
+        first += n;
     }
     Outline::Accepted(words, at)
 }

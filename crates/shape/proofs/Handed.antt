@@ -1,77 +1,89 @@
--- What a shape's call answers and leaves: where its arguments are refused, and where its anchors were handed over. Assumes nothing.
+-- What a shape's call answers and leaves: where its arguments are refused, and what is tested after them. Assumes nothing.
 use mathlib.Core.Path.{◌≡◌, refl, sym, ap, ◌∙◌}
 use mathlib.Core.Bool.{Bool, true, false}
 use mathlib.Core.List.{List, [], ◌∷◌}
-use Prim.Native.Nat.{ℕ, zero, suc, ◌*◌, ◌≤◌, ◌<◌}
+use native.Mathlib.Nat.{not-suc-le-zero}
 use native.Mathlib.Omega.{arith}
-use lib.ListN.{length, get_or}
-use lib.Ieee.{Float}
-use Rattle.views.proofs.Laws.{overwrite_cong}
-use Rattle.refusal.specs.Order.{holds, judge, first_failing, Verdict, accepted, refused, verdict, tests}
+use Rattle.std.proofs.lemmas.List.{take_more, length-take-le}
+use Prim.Native.Nat.{ℕ, ◌+◌, ◌*◌, ◌≤◌, ◌<◌, zero-le}
+use lib.ListN.{length, get_or, set, take}
+use lib.Seq.{take_all}
+use lib.Ieee.{Float, nan}
+use Rattle.std.specs.List.{AllWithin, HoldsAt}
+use Rattle.views.specs.View.{overwrite}
+use Rattle.geom.specs.Point.{point}
+use Rattle.refusal.specs.Order.{passes, holds, judge, first_failing, accepted, refused, verdict, tests}
 use Rattle.refusal.proofs.Verdicts.{holds_false, by_arguments}
 use Rattle.path.specs.declared.anchor.Anchor.{Anchor}
-use Rattle.path.specs.Shape.{total, word_of}
-use Rattle.path.specs.Flat.{put_all, listed}
-use Rattle.path.proofs.Puts.{put-listed}
+use Rattle.path.specs.Anchor.{without_handles}
+use Rattle.path.specs.Flat.{nth, put_anchor, put_all, listed}
+use Rattle.path.proofs.Puts.{put_next, put-listed}
+use Rattle.path.specs.Limit.{anchor_good}
+use Rattle.path.proofs.Limits.{GoodBelow, Least}
 use Rattle.call.specs.declared.answers.Outline.TheVariants.{Refused}
-use Rattle.call.specs.Tests.{outline_limit, room_for}
-use Rattle.call.specs.Answers.{outline_answer, list_left, anchors_left, handed_verdict, handed_answer, handed_shapes, handed_anchors}
-use Rattle.call.proofs.Handings.{outline-refused, list_kept, anchors_kept, listed-verdict, listed_anchors}
+use Rattle.call.specs.Tests.{outline_in, outline_limit, room_for}
+use Rattle.call.proofs.Openings.{places_fail, places_pass}
+use Rattle.call.proofs.Handings.{outline-refused, list_kept, anchors_kept}
 use Rattle.shape.specs.Calls.{shape_verdict, shape_answer, shape_word, shape_numbers}
 
--- the anchors that the word of one subpath calls for
-pub total_one : (n : ℕ) (closed : Bool) → n ≤ 8 → total (word_of n closed ∷ []) ≡ n
-unfolding word_of
-total_one n true h = omega arith
-total_one n false h = omega arith
-
-module _ (given : Bool) (ps : List Anchor) (closed : Bool) (to_shapes : List ℕ) (to : List Float) where
+module _ (ps : List Anchor) (to_shapes : List ℕ) (to : List Float) where
   -- an argument beyond the limit
-  arguments_refused : given ≡ false → shape_verdict given ps to_shapes to ≡ refused 5 0
+  pub arguments_refused : (given : Bool) → given ≡ false → shape_verdict given ps to_shapes to ≡ refused 5 0
   unfolding shape_verdict
-  arguments_refused g = by_arguments _ _ _ _ _ _ refl 0 (holds_false 0 g)
-
-  pub shape_refused : given ≡ false
-      → (Refused 5 0 ≡ shape_answer given ps to_shapes to) × (to_shapes ≡ shape_word given ps closed to_shapes to) × (to ≡ shape_numbers given ps to_shapes to)
-  unfolding shape_answer shape_word shape_numbers
-  shape_refused g = let v = arguments_refused g in (outline-refused _ _ v, list_kept _ _ _ v, anchors_kept _ _ v)
+  arguments_refused given g = by_arguments _ _ _ _ _ _ refl 0 (holds_false 0 g)
 
   -- none: 9 and 8 are left
-  arguments_pass : given ≡ true → shape_verdict given ps to_shapes to ≡ judge (outline_limit ps) 9 (judge (holds (room_for 1 (length ps) to_shapes to) 0) 8 accepted)
+  arguments_pass : shape_verdict true ps to_shapes to ≡ judge (outline_limit ps) 9 (judge (holds (room_for 1 (length ps) to_shapes to) 0) 8 accepted)
   unfolding shape_verdict verdict first_failing tests judge holds
-  arguments_pass g = rw g
+  arguments_pass = refl
 
-  module _ (g : given ≡ true) (n : ℕ) (few : n ≤ 8) (xs made : List Float) (count : length ps ≡ n) (long : n * 6 ≤ length xs) (e : made ≡ put_all xs 0 ps) where
-    abbrev words : List ℕ
-    words = word_of n closed ∷ []
+  abbrev nowhere : Anchor
+  nowhere = without_handles (point nan nan)
 
-    room : length ps * 6 ≤ length xs
-    room = rw count long
+  pub anchor_refused : (k : ℕ) → (k < length ps) × HoldsAt (λ a. anchor_good a ≡ false) ps k × AllWithin (λ a. anchor_good a ≡ true) ps 0 k → shape_verdict true ps to_shapes to ≡ refused 9 k
+  unfolding outline_in nth outline_limit judge
+  anchor_refused k h =
+      let l : Least (outline_in ps) (length ps) k = record { place = h.0; bad = h.1 nowhere; below = λ j m. h.2 j nowhere zero-le m } in
+      arguments_pass ∙ rw (places_fail (outline_in ps) (length ps) passes k l)
 
-    laid : made ≡ listed ps xs
-    laid = e ∙ put-listed ps xs room
+  module _ (good : AllWithin (λ a. anchor_good a ≡ true) ps 0 (length ps)) where
+    within : GoodBelow (outline_in ps) (length ps)
+    unfolding outline_in nth
+    within j l = good j nowhere zero-le l
 
-    all-of_them : total words ≡ length ps
-    all-of_them = total_one n closed few ∙ sym count
+    pub room_refused : room_for 1 (length ps) to_shapes to ≡ false → shape_verdict true ps to_shapes to ≡ refused 8 0
+    unfolding outline_limit judge holds
+    room_refused r = arguments_pass ∙ rw (places_pass (outline_in ps) (length ps) passes within, r)
 
-    same-verdict : handed_verdict words made to_shapes to ≡ shape_verdict given ps to_shapes to
-    same-verdict = listed-verdict ps xs room words made to_shapes to laid all-of_them ∙ sym (arguments_pass g)
+    pub none_refused : room_for 1 (length ps) to_shapes to ≡ true → shape_verdict true ps to_shapes to ≡ accepted
+    unfolding outline_limit judge holds
+    none_refused r = arguments_pass ∙ rw (places_pass (outline_in ps) (length ps) passes within, r)
 
-    the_word : (v : Verdict) → list_left v 1 (λ i. get_or words i 0) to_shapes ≡ list_left v 1 (λ i. word_of (length ps) closed) to_shapes
-    unfolding list_left
-    the_word (refused c k) = refl
-    the_word accepted = overwrite_cong _ _ _ to_shapes first
-      where
-        first : (i : ℕ) → i < 1 → get_or words i 0 ≡ word_of (length ps) closed
-        first zero l = ap (λ m. word_of m closed) (sym count)
-        first (suc i) l = absurd (omega arith)
+-- ---- one shape word, and the anchors one after the other
+pub one_written : (w : ℕ) (xs : List ℕ) → 0 < length xs → set xs 0 w ≡ overwrite 1 (λ i. w) xs
+unfolding overwrite
+one_written w [] h = absurd (not-suc-le-zero h)
+one_written w (x ∷ []) h = refl
+one_written w (x ∷ y ∷ ys) h = refl
 
-    pub shape_handed : (handed_answer words made to_shapes to ≡ shape_answer given ps to_shapes to)
-        × (handed_shapes words made to_shapes to ≡ shape_word given ps closed to_shapes to)
-        × (handed_anchors words made to_shapes to ≡ shape_numbers given ps to_shapes to)
-    unfolding handed_answer handed_shapes shape_answer shape_word shape_numbers
-    shape_handed = (
-      ap (λ v. outline_answer v 1 (total words)) same-verdict ∙ ap (outline_answer (shape_verdict given ps to_shapes to) 1) all-of_them,
-      ap (λ v. list_left v 1 (λ i. get_or words i 0) to_shapes) same-verdict ∙ the_word (shape_verdict given ps to_shapes to),
-      listed_anchors ps xs room words made to_shapes to laid all-of_them ∙ ap (λ v. anchors_left v ps to) same-verdict,
-    )
+pub one_more : (ps : List Anchor) (xs ys : List Float) (k : ℕ) (d : Anchor) → k < length ps → ys ≡ put_all xs 0 (take k ps) → put_anchor ys k (get_or ps k d) ≡ put_all xs 0 (take (k + 1) ps)
+unfolding put_all
+one_more ps xs ys k d h e =
+    rw (take_more ps k d h)
+    (put_next xs ys (put_anchor ys k (get_or ps k d)) 0 k (take k ps) (get_or ps k d ∷ []) (omega (arith, length-take-le k ps (omega arith))) e refl)
+
+pub all_put : (ps : List Anchor) (xs : List Float) (k : ℕ) → length ps ≤ k → length ps * 6 ≤ length xs → put_all xs 0 (take k ps) ≡ listed ps xs
+all_put ps xs k h room = ap (put_all xs 0) (take_all k ps h) ∙ put-listed ps xs room
+
+-- ---- an argument beyond the limit: what is answered and left
+pub refused_answer : (given : Bool) (ps : List Anchor) (to_shapes : List ℕ) (to : List Float) → given ≡ false → shape_answer given ps to_shapes to ≡ Refused 5 0
+unfolding shape_answer
+refused_answer given ps to_shapes to g = sym (outline-refused _ _ (arguments_refused ps to_shapes to given g))
+
+pub refused_word : (given : Bool) (ps : List Anchor) (closed : Bool) (to_shapes : List ℕ) (to : List Float) → given ≡ false → shape_word given ps closed to_shapes to ≡ to_shapes
+unfolding shape_word
+refused_word given ps closed to_shapes to g = sym (list_kept _ _ _ (arguments_refused ps to_shapes to given g))
+
+pub refused_numbers : (given : Bool) (ps : List Anchor) (to_shapes : List ℕ) (to : List Float) → given ≡ false → shape_numbers given ps to_shapes to ≡ to
+unfolding shape_numbers
+refused_numbers given ps to_shapes to g = sym (anchors_kept _ _ (arguments_refused ps to_shapes to given g))

@@ -1,17 +1,13 @@
 // `rect`, `ellipse` and `line`, with their refusals: 5 and 8 at place 0, 9 at the place in the shape.
-ghost use Rattle.std.specs.Prelude.{◌≡◌, true, false, ◌&&◌, [], ◌∷◌, ◌≤◌};
+ghost use Rattle.std.specs.Prelude.{◌≡◌, true, false, ◌&&◌, ◌≤◌, length};
 ghost use Rattle.real.specs.Limit.{in_limit};
-ghost use Rattle.path.specs.Shape.{word_of};
-ghost use Rattle.call.specs.Answers.{handed_answer, handed_shapes, handed_anchors};
 ghost use Rattle.shape.specs.Outlines.{rect_anchors, ellipse_anchors, line_anchors};
 ghost use Rattle.shape.specs.Calls.{pair_in, shape_answer, shape_word, shape_numbers};
 
-use crate::outlines::{
-    centre, fitted_radius, greatest, least, put_ellipse, put_line, put_rounded, put_sharp,
-    semi_axis,
-};
+use crate::outlines::{ellipse_between, fitted_radius, line_between, rounded, sharp};
 use call::Outline;
 use geom::P;
+use path::Anchor;
 
 fn pair_in_limit(a: P, b: P) -> bool
     ensures { result ≡ pair_in a b }
@@ -19,21 +15,24 @@ fn pair_in_limit(a: P, b: P) -> bool
     a.in_limit() && b.in_limit()
 }
 
-// One subpath of n anchors goes to the lent lists.
-fn hand_over_one(
-    n: usize,
-    closed: bool,
-    made: &[f64; 48],
-    to_shapes: &mut [u32],
-    to: &mut [f64],
-) -> Outline
-    requires { n ≤ 8 }
-    ensures answer { result ≡ handed_answer (word_of n closed ∷ []) made.now to_shapes.old to.old }
-    ensures shapes { to_shapes.new ≡ handed_shapes (word_of n closed ∷ []) made.now to_shapes.old to.old }
-    ensures anchors { to.new ≡ handed_anchors (word_of n closed ∷ []) made.now to_shapes.old to.old }
+// One subpath of these anchors goes to the lent lists, unless a number of it breaks the limit or they are too short.
+fn hand_over(anchors: &[Anchor], closed: bool, to_shapes: &mut [u32], to: &mut [f64]) -> Outline
+    requires { length anchors.now ≤ 8 }
+    ensures answer { result ≡ shape_answer true anchors.now to_shapes.old to.old }
+    ensures shapes { to_shapes.new ≡ shape_word true anchors.now closed to_shapes.old to.old }
+    ensures anchors { to.new ≡ shape_numbers true anchors.now to_shapes.old to.old }
 {
-    let words = [path::word(n, closed)];
-    call::hand_over(&words, made, to_shapes, to)
+    if let Some(k) = anchors.iter().position(|a| !a.in_limit()) {
+        return Outline::Refused(refusal::RESULT, k);
+    }
+    if to_shapes.is_empty() || to.len() < anchors.len() * 6 {
+        return Outline::Refused(refusal::OUTPUT, 0);
+    }
+    to_shapes[0] = path::word(anchors.len(), closed);
+    for (k, a) in anchors.iter().enumerate() {
+        path::put_anchor(to, k, *a);
+    }
+    Outline::Accepted(1, anchors.len())
 }
 
 // The rectangle of which a and b are opposite corners, its corners rounded by the radius as far as that fits.
@@ -42,22 +41,17 @@ pub fn rect(a: P, b: P, radius: f64, to_shapes: &mut [u32], to: &mut [f64]) -> O
     ensures shapes { to_shapes.new ≡ shape_word (pair_in a b && in_limit radius) (rect_anchors a b radius) true to_shapes.old to.old }
     ensures anchors { to.new ≡ shape_numbers (pair_in a b && in_limit radius) (rect_anchors a b radius) to_shapes.old to.old }
 {
-    if !pair_in_limit(a, b) {
+    if !pair_in_limit(a, b) || !real::in_limit(radius) {
         return Outline::Refused(refusal::ARGUMENTS, 0);
     }
-    if !real::in_limit(radius) {
-        return Outline::Refused(refusal::ARGUMENTS, 0);
-    }
-    let lo = least(a, b);
-    let hi = greatest(a, b);
+    let lo = P::new(real::min(a.x, b.x), real::min(a.y, b.y));
+    let hi = P::new(real::max(a.x, b.x), real::max(a.y, b.y));
     let fitted = fitted_radius(lo, hi, radius);
-    let mut made = [0.0f64; 48];
     if fitted < 1e-9 {
-        put_sharp(lo, hi, &mut made);
-        return hand_over_one(4, true, &made, to_shapes, to);
+        hand_over(&sharp(lo, hi), true, to_shapes, to)
+    } else {
+        hand_over(&rounded(lo, hi, fitted), true, to_shapes, to)
     }
-    put_rounded(lo, hi, fitted, &mut made);
-    hand_over_one(8, true, &made, to_shapes, to)
 }
 
 // The ellipse that fills the box between a and b.
@@ -69,14 +63,7 @@ pub fn ellipse(a: P, b: P, to_shapes: &mut [u32], to: &mut [f64]) -> Outline
     if !pair_in_limit(a, b) {
         return Outline::Refused(refusal::ARGUMENTS, 0);
     }
-    let mut made = [0.0f64; 48];
-    put_ellipse(
-        centre(a, b),
-        semi_axis(a.x, b.x),
-        semi_axis(a.y, b.y),
-        &mut made,
-    );
-    hand_over_one(4, true, &made, to_shapes, to)
+    hand_over(&ellipse_between(a, b), true, to_shapes, to)
 }
 
 // The straight line from a to b.
@@ -88,7 +75,5 @@ pub fn line(a: P, b: P, to_shapes: &mut [u32], to: &mut [f64]) -> Outline
     if !pair_in_limit(a, b) {
         return Outline::Refused(refusal::ARGUMENTS, 0);
     }
-    let mut made = [0.0f64; 48];
-    put_line(a, b, &mut made);
-    hand_over_one(2, false, &made, to_shapes, to)
+    hand_over(&line_between(a, b), false, to_shapes, to)
 }

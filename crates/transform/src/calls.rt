@@ -22,13 +22,10 @@ pub fn transform(
         return by_scratch(shapes, anchors, m, to_shapes, to);
     }
     let count = path::total_of(shapes);
-    if to_shapes.len() < shapes.len() {
+    if to_shapes.len() < shapes.len() || to.len() < count * 6 {
         return Outline::Refused(refusal::OUTPUT, 0);
     }
-    if to.len() < count * 6 {
-        return Outline::Refused(refusal::OUTPUT, 0);
-    }
-    views::copy_words(shapes, shapes.len(), to_shapes);
+    views::copy(shapes, shapes.len(), to_shapes);
     map_anchors(m, anchors, count, to);
     Outline::Accepted(shapes.len(), count)
 }
@@ -45,8 +42,7 @@ fn by_scratch(
     ensures shapes { to_shapes.new ≡ transform_shapes shapes.now anchors.now m to_shapes.old to.old }
     ensures anchors { to.new ≡ transform_anchors shapes.now anchors.now m to_shapes.old to.old }
 {
-    let opened = call::open_path(512, shapes, anchors);
-    match opened {
+    match call::open_path(512, shapes, anchors) {
         Opened::Refused(n, place) => Outline::Refused(n, place),
         Opened::Anchors(count) => {
             if !map_in_limit(m) {

@@ -10,12 +10,7 @@ use path::Anchor;
 pub fn map_in_limit(m: [f64; 6]) -> bool
     ensures { result ≡ map_in m }
 {
-    for i in 0..6 {
-        if !real::in_limit(m[i]) {
-            return false;
-        }
-    }
-    true
+    m.iter().all(|x| real::in_limit(*x))
 }
 
 fn mapped(m: [f64; 6], a: Anchor) -> Anchor
@@ -34,7 +29,6 @@ pub fn map_anchors(m: [f64; 6], anchors: &[f64], n: usize, made: &mut [f64])
     ensures { made.new ≡ overwrite (n * 6) (anchor_numbers (mapped_at m anchors.now)) made.old }
 {
     for k in 0..n {
-        let a = path::anchor_at(anchors, k);
-        path::put_anchor(made, k, mapped(m, a));
+        path::put_anchor(made, k, mapped(m, path::anchor_at(anchors, k)));
     }
 }

@@ -13,7 +13,6 @@ ghost use Rattle.call.specs.Tests.{opened_path, outline_limit};
 ghost use Rattle.transform.specs.Mapped.{mapped_at, mapped_path, map_in};
 
 use crate::mapping::map_in_limit;
-use path::Sized;
 
 // A guess at a magnitude whose points the map keeps in limit. The contract says nothing of how good it is.
 fn reach_of(m: [f64; 6]) -> f64
@@ -36,31 +35,18 @@ fn stays_in_limit(m: [f64; 6], anchors: &[f64], n: usize) -> bool
     ensures { T result → (all (λ i. in_limit (entry anchors.now i)) (n * 6) ≡ true) × (all (λ i. in_limit (anchor_numbers (mapped_at m anchors.now) i)) (n * 6) ≡ true) }
 {
     let reach = reach_of(m);
-    if !real::in_limit(reach) {
-        return false;
-    }
-    if !keeps(m[0], m[2], m[4], reach) {
-        return false;
-    }
-    if !keeps(m[1], m[3], m[5], reach) {
-        return false;
-    }
-    path::all_within(reach, anchors, n * 6)
+    real::in_limit(reach)
+        && keeps(m[0], m[2], m[4], reach)
+        && keeps(m[1], m[3], m[5], reach)
+        && path::all_within(reach, &anchors[..n * 6])
 }
 
 // Whether refusals 7, 5 and 9 are found not to come.
 pub fn all_but_room(shapes: &[u32], anchors: &[f64], m: [f64; 6]) -> bool
     ensures { T result → (opened_path 512 shapes.now anchors.now ≡ Anchors (total shapes.now)) × (map_in m ≡ true) × (outline_limit (mapped_path m shapes.now anchors.now) ≡ passes) }
 {
-    let size = path::size_test(shapes, 512);
-    let Sized::Anchors(n) = size else {
+    let Some(n) = path::size_test(shapes, 512) else {
         return false;
     };
-    if anchors.len() < n * 6 {
-        return false;
-    }
-    if !map_in_limit(m) {
-        return false;
-    }
-    stays_in_limit(m, anchors, n)
+    n * 6 <= anchors.len() && map_in_limit(m) && stays_in_limit(m, anchors, n)
 }
