@@ -1,5 +1,5 @@
 -- How the C interface hands over what a call answers: the refusal's number, 0 where accepted, and the words place, count, subpaths, recut. Assumes nothing.
-use Rattle.std.specs.Prelude.{ℕ, ◌≡◌, List, [], ◌∷◌, Float}
+use Rattle.std.specs.Prelude.{ℕ, ◌≡◌, List, [], ◌∷◌, Float, Result, Ok, Err}
 use Rattle.views.specs.View.{entry}
 use Rattle.geom.specs.declared.point.P.{P}
 use Rattle.geom.specs.Point.{point}
@@ -26,8 +26,9 @@ use Rattle.hit.specs.declared.segments.HitSegment.{HitSegment}
 use Rattle.hit.specs.declared.segments.HitSegment.TheVariants as segment
 use Rattle.bounds.specs.declared.boxes.Extent.{Extent}
 use Rattle.bounds.specs.declared.boxes.Extent.TheVariants as extent
-use Rattle.job_calls.specs.declared.call.Job.{Job}
-use Rattle.job_calls.specs.declared.call.Job.TheVariants as job
+use Rattle.job_calls.specs.declared.result.Read.{Read}
+use Rattle.refusal.specs.declared.Refusal.{Refusal}
+use Rattle.refusal.specs.Reasons.{number_of}
 use Rattle.cubic_calls.specs.declared.answers.Number.TheVariants as number
 use Rattle.cubic_calls.specs.declared.answers.Point.TheVariants as located
 use Rattle.cubic_calls.specs.declared.answers.Filled.TheVariants as filled
@@ -172,10 +173,10 @@ corners_left extent.Empty old = old
 corners_left (extent.Box least greatest) old = least.x ∷ least.y ∷ greatest.x ∷ greatest.y ∷ []
 
 -- ---- a job in lists: the words place, anchors, subpaths, kind
-unfoldable pub job_code : Job → ℕ
-job_code (job.Refused n place) = n
-job_code (job.Read kind subpaths count) = 0
+unfoldable pub job_code : Result Read Refusal → ℕ
+job_code (Err e) = number_of e.reason
+job_code (Ok r) = 0
 
-unfoldable pub job_words : Job → List ℕ
-job_words (job.Refused n place) = words place 0
-job_words (job.Read kind subpaths count) = 0 ∷ count ∷ subpaths ∷ kind ∷ []
+unfoldable pub job_words : Result Read Refusal → List ℕ
+job_words (Err e) = words e.place 0
+job_words (Ok r) = 0 ∷ r.anchors ∷ r.subpaths ∷ r.kind ∷ []

@@ -5,7 +5,8 @@ ghost use Rattle.answers.specs.Answers.{words, filled_code, filled_words, text_c
 use call::Outline;
 use corner_calls::Corners;
 use cubic_calls::Filled;
-use job_calls::Job;
+use job_calls::Read;
+use refusal::Refusal;
 use replay::Replayed;
 use session::Edited;
 use svg_calls::Answer;
@@ -18,6 +19,7 @@ pub fn tell(place: usize, count: usize, answer: &mut [u64; 4])
 }
 
 // What a call that fills lists answered.
+#[tactic(auto, unfolding(crate::specs::Answers::filled_code, crate::specs::Answers::filled_words))]
 pub fn filled_told(a: Filled, answer: &mut [u64; 4]) -> u32
     ensures code { result ≡ filled_code a }
     ensures answer { answer.new ≡ filled_words a }
@@ -35,6 +37,7 @@ pub fn filled_told(a: Filled, answer: &mut [u64; 4]) -> u32
 }
 
 // What a call that writes text answered.
+#[tactic(auto, unfolding(crate::specs::Answers::text_code, crate::specs::Answers::text_words))]
 pub fn text_told(a: Answer, answer: &mut [u64; 4]) -> u32
     ensures code { result ≡ text_code a }
     ensures answer { answer.new ≡ text_words a }
@@ -52,6 +55,7 @@ pub fn text_told(a: Answer, answer: &mut [u64; 4]) -> u32
 }
 
 // What a call that makes an outline answered.
+#[tactic(auto, unfolding(crate::specs::Answers::outline_code, crate::specs::Answers::outline_words))]
 pub fn outline_told(a: Outline, answer: &mut [u64; 4]) -> u32
     ensures code { result ≡ outline_code a }
     ensures answer { answer.new ≡ outline_words a }
@@ -69,6 +73,7 @@ pub fn outline_told(a: Outline, answer: &mut [u64; 4]) -> u32
 }
 
 // What a call that lists corners answered.
+#[tactic(auto, unfolding(crate::specs::Answers::corners_code, crate::specs::Answers::corners_words))]
 pub fn corners_told(a: Corners, answer: &mut [u64; 4]) -> u32
     ensures code { result ≡ corners_code a }
     ensures answer { answer.new ≡ corners_words a }
@@ -86,23 +91,31 @@ pub fn corners_told(a: Corners, answer: &mut [u64; 4]) -> u32
 }
 
 // What the reader answered.
-pub fn job_told(a: Job, answer: &mut [u64; 4]) -> u32
+#[tactic(auto, unfolding(crate::specs::Answers::job_code, crate::specs::Answers::job_words))]
+pub fn job_told(a: Result<Read, Refusal>, answer: &mut [u64; 4]) -> u32
     ensures code { result ≡ job_code a }
     ensures answer { answer.new ≡ job_words a }
 {
     match a {
-        Job::Refused(n, place) => {
-            tell(place, 0, answer);
-            n
+        Err(refusal) => {
+            tell(refusal.place, 0, answer);
+            u32::from(refusal.reason)
         }
-        Job::Read(kind, subpaths, count) => {
-            *answer = [0, count as u64, subpaths as u64, kind as u64];
+        Ok(
+            Read {
+                kind,
+                subpaths,
+                anchors,
+            },
+        ) => {
+            *answer = [0, anchors as u64, subpaths as u64, kind as u64];
             0
         }
     }
 }
 
 // What an edit answered.
+#[tactic(auto, unfolding(crate::specs::Answers::edited_code, crate::specs::Answers::edited_words))]
 pub fn edited_told(a: Edited, answer: &mut [u64; 4]) -> u32
     ensures code { result ≡ edited_code a }
     ensures answer { answer.new ≡ edited_words a }
@@ -120,6 +133,7 @@ pub fn edited_told(a: Edited, answer: &mut [u64; 4]) -> u32
 }
 
 // What a list of edits answered.
+#[tactic(auto, unfolding(crate::specs::Answers::replayed_code, crate::specs::Answers::replayed_words))]
 pub fn replayed_told(a: Replayed, answer: &mut [u64; 4]) -> u32
     ensures code { result ≡ replayed_code a }
     ensures answer { answer.new ≡ replayed_words a }

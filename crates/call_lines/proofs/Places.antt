@@ -11,7 +11,7 @@ use Rattle.cut.specs.declared.subpath.Window.{Window}
 use Rattle.cut.specs.Near.{near}
 use Rattle.decimal.specs.Text.{whole_text}
 use Rattle.recutting.specs.Near.{reached_in}
-use Rattle.call_lines.specs.Lines.{passing, listed}
+use Rattle.call_lines.specs.Lines.{passing, listed, recut_text}
 
 -- ---- the places that pass
 pub passing-none : (p : ℕ → Bool) (n : ℕ) → ((k : ℕ) → k < n → p k ≡ false) → passing p n ≡ []
@@ -32,6 +32,9 @@ unfolding listed
 listed-append [] b = refl
 listed-append (k ∷ a) b = ap (λ l. (32 ∷ whole_text k) ++ l) (listed-append a b) ∙ sym (append_assoc (32 ∷ whole_text k) (listed a) (listed b))
 
+abbrev recut_word : List ℕ
+recut_word = 114 ∷ 101 ∷ 99 ∷ 117 ∷ 116 ∷ []
+
 -- ---- of a subpath, before index j
 module _ (sub : Sub) (w : Window) where
   abbrev p : ℕ → Bool
@@ -50,16 +53,20 @@ module _ (sub : Sub) (w : Window) where
   unfolding reached_in
   reached-before k l = rw (lt-leb sub.first k l)
 
-  pub listed-none : listed (passing p (sub.first + 0)) ≡ []
-  unfolding listed
-  listed-none = let e : sub.first + 0 ≡ sub.first = omega arith in rw (e, passing-none p sub.first reached-before)
+  pub recut-none : recut_text (passing p (sub.first + 0)) ≡ recut_text []
+  recut-none = let e : sub.first + 0 ≡ sub.first = omega arith in rw (e, passing-none p sub.first reached-before)
 
-  pub listed_skip : (j : ℕ) → j < sub.n → near_to j ≡ false → listed (passing p (sub.first + (j + 1))) ≡ listed (passing p (sub.first + j))
-  listed_skip j l e = let x : sub.first + (j + 1) ≡ suc (sub.first + j) = omega arith in rw x (ap listed (passing-same p (sub.first + j) (reached_at j l ∙ e)))
+  pub recut_skip : (j : ℕ) → j < sub.n → near_to j ≡ false → recut_text (passing p (sub.first + (j + 1))) ≡ recut_text (passing p (sub.first + j))
+  recut_skip j l e =
+      let x : sub.first + (j + 1) ≡ suc (sub.first + j) = omega arith in
+      rw x (ap recut_text (passing-same p (sub.first + j) (reached_at j l ∙ e)))
 
-  pub listed-put : (j : ℕ) → j < sub.n → near_to j ≡ true → listed (passing p (sub.first + (j + 1))) ≡ listed (passing p (sub.first + j)) ++ (32 ∷ whole_text (sub.first + j))
-  unfolding listed
-  listed-put j l e =
+  pub recut-put : (j : ℕ) → j < sub.n → near_to j ≡ true
+      → recut_text (passing p (sub.first + (j + 1))) ≡ (recut_text (passing p (sub.first + j)) ++ 32 ∷ []) ++ whole_text (sub.first + j)
+  unfolding recut_text listed
+  recut-put j l e =
       let k = sub.first + j in
       let x : sub.first + (j + 1) ≡ suc k = omega arith in
-      rw x (ap listed (passing_more p k (reached_at j l ∙ e)) ∙ listed-append (passing p k) (k ∷ []) ∙ ap (λ t. listed (passing p k) ++ t) (append-nil (32 ∷ whole_text k)))
+      let more : listed (passing p (suc k)) ≡ listed (passing p k) ++ (32 ∷ whole_text k) =
+      ap listed (passing_more p k (reached_at j l ∙ e)) ∙ listed-append (passing p k) (k ∷ []) ∙ ap (λ t. listed (passing p k) ++ t) (append-nil (32 ∷ whole_text k)) in
+      rw x (ap (λ t. recut_word ++ t) (more ∙ sym (append_assoc (listed (passing p k)) (32 ∷ []) (whole_text k))))

@@ -2,8 +2,8 @@
 use mathlib.Core.Path.{◌≡◌, refl, sym, ◌∙◌}
 use mathlib.Core.Logic.{◌⊎◌, inl, inr, ⊎_elim}
 use mathlib.Core.Bool.{Bool, true, false, ◌&&◌, ◌||◌, cond, true≢false}
-use mathlib.Core.List.{List, [], ◌∷◌, ◌++◌}
-use Prim.Native.Nat.{ℕ, zero, suc, ◌+◌, ◌-◌, ◌*◌, ◌^◌, ◌≤◌, ◌<◌, zero-le}
+use mathlib.Core.List.{List, [], ◌∷◌}
+use Prim.Native.Nat.{ℕ, zero, suc, ◌+◌, ◌-◌, ◌*◌, ◌≤◌, ◌<◌, zero-le}
 use native.Mathlib.Nat.{le_refl, le_trans, add-le-add}
 use native.Mathlib.Numerals.{add-one}
 use native.Mathlib.Omega.{arith}
@@ -18,6 +18,7 @@ use Rattle.decimal.specs.Text.{whole_text}
 use Rattle.decimal.proofs.Digits.{whole_room}
 use Rattle.printing.specs.Refused.{refused_text}
 use Rattle.printing.specs.Printed.{fitted}
+use Rattle.printing.proofs.Rooms.{refused-room}
 use Rattle.recutting.specs.Near.{reached_in}
 use Rattle.call_lines.specs.Lines.{passing, window_of, recut_places, listed, recut_text, Sound}
 use Rattle.call_lines.proofs.Places.{passing-none, passing-same, passing_more, reached_at, reached-before, listed-append}
@@ -147,13 +148,6 @@ places-room sub w s = listed-room (reached_in sub w) (sub.first + sub.n) (omega 
 pub recut-room : (sub : Sub) (w : Window) → Sound sub w → w.reach ≤ 4 → length (recut_text (recut_places sub w)) ≤ 41
 unfolding recut_text
 recut-room sub w s r = omega (arith, few_recut sub w s.index, places-room sub w s)
-
-pub refused-room : (n place : ℕ) → n < 2 ^ 32 → place < 2 ^ 64 → length (refused_text n place) ≤ 39
-unfolding refused_text
-refused-room n place h l =
-    let a : length (whole_text n) ≤ 10 = whole_room 9 n (omega arith) in
-    let b : length (whole_text place) ≤ 20 = whole_room 19 place (omega arith) in
-    omega (arith, length-append (whole_text n ++ 32 ∷ []) (whole_text place), length-append (whole_text n) (32 ∷ []))
 
 pub window-reach : (which index : ℕ) → (window_of which index).reach ≤ 4
 unfolding window_of

@@ -1,14 +1,15 @@
 -- The decimal digits: what bounds the recursion does not matter, and so `whole_text` is known by its last digit. Assumes nothing.
-use mathlib.Core.Path.{◌≡◌, refl, ap, ◌∙◌}
+use mathlib.Core.Path.{◌≡◌, refl, sym, ap, ◌∙◌, subst}
 use mathlib.Core.Bool.{Bool, true, false, cond}
 use mathlib.Core.Logic.{⊎_elim}
-use mathlib.Core.List.{[], ◌∷◌, ◌++◌}
+use mathlib.Core.List.{List, [], ◌∷◌, ◌++◌, append_assoc}
 use Prim.Native.Nat.{ℕ, zero, suc, ◌+◌, ◌/◌, ◌%◌, ◌^◌, ◌≤◌, ◌<◌, zero-le, suc-le-suc}
 use native.Mathlib.Nat.{pow-suc, le_refl}
 use native.Mathlib.Omega.{arith}
 use borrow.Author.Tests.{lt-ltb, le-ltb, eq-eqb, ne_eqb}
 use lib.Dec.{ltb}
-use lib.ListN.{length, length-append}
+use lib.ListN.{length, drop, length-append}
+use lib.Seq.{drop-append_seam}
 use lib.IntN.{pos, neg_ℤ}
 use lib.Ieee.{Float, size}
 use lib.Ieee.Digits.{size-lt}
@@ -50,6 +51,31 @@ whole_room (suc k) n h =
     (λ l. rw (length_more n l) (let r : length (whole_text (n / 10)) ≤ suc k = whole_room k (n / 10) (omega (arith, pow-suc 10 (suc k))) in omega arith))
     (λ l. rw (whole-small n l) (suc-le-suc zero-le))
     (order 10 n)
+
+-- ---- the digits from the last one on: whole_text m stands before the digits d of t, j digits are before its last one
+pub record LastDigit (t : List ℕ) (m j : ℕ) : Type 0 where
+  pub digit : drop j t ≡ (48 + m % 10) ∷ drop (suc j) t
+  pub rest : 0 < j → whole_text (m / 10) ++ drop j t ≡ t
+
+last_digit : (a d : List ℕ) (m j : ℕ) → whole_text m ≡ a ++ (48 + m % 10) ∷ [] → length a ≡ j → (0 < j → whole_text (m / 10) ≡ a) → LastDigit (whole_text m ++ d) m j
+last_digit a d m j e l r =
+    let t : whole_text m ++ d ≡ a ++ (48 + m % 10) ∷ d = rw (e, append_assoc) in
+    let x : drop j (whole_text m ++ d) ≡ (48 + m % 10) ∷ d = rw (t, ← l) (drop-append_seam a ((48 + m % 10) ∷ d)) in
+    let z : length (whole_text m) ≡ suc j = omega (arith, ap length e, length-append a ((48 + m % 10) ∷ []), l) in
+    let y : drop (suc j) (whole_text m ++ d) ≡ d = rw (← z) (drop-append_seam (whole_text m) d) in
+    record { digit = rw (x, y); rest = λ h. rw (x, r h) (sym t) }
+
+pub last_of : (t d : List ℕ) (m j : ℕ) → whole_text m ++ d ≡ t → length d + suc j ≡ length t → LastDigit t m j
+last_of t d m j e l =
+    let n : length (whole_text m) ≡ suc j = omega (arith, ap length e, length-append (whole_text m) d) in
+    subst (λ u. LastDigit u m j) e
+    (⊎_elim
+    (λ h. last_digit (whole_text (m / 10)) d m j (whole_more m h) (omega (arith, length_more m h)) (λ k. refl))
+    (λ h.
+    let v : m % 10 ≡ m = omega arith in
+    let o : length (whole_text m) ≡ 1 = rw (whole-small m h) in
+    last_digit [] d m j (rw (whole-small m h, v)) (omega arith) (λ k. absurd (omega arith)))
+    (order 10 m))
 
 -- ---- the decimals, by what is left of them
 pub none_left : (f : ℕ) → f ≡ 0 → fraction_text f ≡ []

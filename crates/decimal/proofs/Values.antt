@@ -8,11 +8,13 @@ use native.Mathlib.Omega.{arith}
 use borrow.Author.Tests.{leb-true, eqb-true, leb-false}
 use lib.Dec.{T, leb, eqb, is_le, compare_is_eq, eqb→eq, not_T, lit<, lit≤}
 use lib.Pow.{pow-add, pow_pos, pow_mono, shl_lt, field}
-use lib.Ieee.{Float, nan, inf, fin, binary64, up, down, odd, nearest, of_fields, of_bits, is_nan}
+use lib.Ieee.{Float, nan, inf, fin, binary64, up, down, odd, nearest, of_fields, of_bits, to_bits, fits, is_nan}
+use lib.Ieee.Bits.{of_bits-to_bits}
 use lib.Ieee.Bits.{is_true, cond_no}
 use lib.Ieee.Exact.{HasValue, odd_sign}
 use lib.Ieee.Fits.{down_pos}
 use lib.Ieee.Nearest.{closest, closest_same, closest_mono}
+use Rattle.std.specs.Float.{is_sign_negative}
 use Rattle.real.specs.Limit.{in_limit}
 use Rattle.views.proofs.Laws.{order}
 use Rattle.decimal.specs.Rounding.{thousandths_of, sign_of}
@@ -65,12 +67,6 @@ thousandths_value (fin t m e) s a c C p =
     closest_same (m * up e * 1000) (down e) (a * 1000) c (down_pos e) C
     (mul_right_comm (m * up e) 1000 c ∙ ap (λ z. z * 1000) p.1 ∙ mul_right_comm a (down e) 1000)
 
-pub sign_value : (x : Float) (s : Bool) (a c : ℕ) → HasValue x s a c → sign_of x ≡ s
-unfolding sign_of
-sign_value nan s a c p = absurd p
-sign_value (inf t) s a c p = absurd p
-sign_value (fin t m e) s a c p = p.0
-
 pub limit_value : (x : Float) (s : Bool) (a c : ℕ) → in_limit x ≡ true → HasValue x s a c → a ≤ 131072 * c
 unfolding in_limit
 limit_value nan s a c l p = absurd p
@@ -85,6 +81,12 @@ unfolding in_limit is_nan
 limit_no_nan nan l = absurd (true≢false (sym l))
 limit_no_nan (inf s) l = tt
 limit_no_nan (fin s m e) l = tt
+
+pub sign_negative : (x : Float) → is_sign_negative x ≡ sign_of x
+unfolding is_sign_negative sign_of
+sign_negative nan = refl
+sign_negative (inf s) = refl
+sign_negative (fin s m e) = refl
 
 -- ---- what a pattern stands for, by its field and its digits
 of_bits_is : (b : ℕ) → of_bits binary64 b ≡ of_fields binary64 (leb (2 ^ 63) b) (b / 2 ^ 52 % 2048) (b % 2 ^ 52)
@@ -126,9 +128,6 @@ module _ (b : ℕ) (l : in_limit (of_bits binary64 b) ≡ true) where
   bits_value =
       subst (λ v. HasValue v (leb (2 ^ 63) b) (units (b / 2 ^ 52 % 2048) (b % 2 ^ 52)) (2 ^ 1074)) (sym (of_bits_is b))
       (fields_value (leb (2 ^ 63) b) (b / 2 ^ 52 % 2048) (b % 2 ^ 52) finite_field)
-
-  pub bits-sign : sign_of (of_bits binary64 b) ≡ leb (2 ^ 63) b
-  bits-sign = sign_value _ _ _ _ bits_value
 
 -- ---- the field of a number within the limit
 small_field : (x t : ℕ) → units x t ≤ 131072 * 2 ^ 1074 → x ≤ 1040
@@ -192,3 +191,21 @@ limit_thousandths (inf s) l = zero-le
 limit_thousandths (fin s m e) l =
     closest_mono (m * up e * 1000) (down e) 131072000 1 (down_pos e) (lit< tt)
     (let h : m * up e ≤ 131072 * down e = leb-true (m * up e) (131072 * down e) l in omega arith)
+
+-- ---- the same of a float's own bits
+module _ (x : Float) (f : T (fits binary64 x)) (l : in_limit x ≡ true) where
+  bits : of_bits binary64 (to_bits binary64 x) ≡ x
+  bits = of_bits-to_bits binary64 x f
+
+  within : in_limit (of_bits binary64 (to_bits binary64 x)) ≡ true
+  within = ap in_limit bits ∙ l
+
+  pub field_within : to_bits binary64 x / 2 ^ 52 % 2048 ≤ 1040
+  field_within = bits_field (to_bits binary64 x) within
+
+  pub field_none : to_bits binary64 x / 2 ^ 52 % 2048 < 1012 → thousandths_of x ≡ 0
+  field_none h = ap thousandths_of (sym bits) ∙ bits_none (to_bits binary64 x) within h
+
+  pub field_some : 1012 ≤ to_bits binary64 x / 2 ^ 52 % 2048
+      → thousandths_of x ≡ closest ((to_bits binary64 x % 2 ^ 52 + 2 ^ 52) * 1000) (2 ^ (1075 - to_bits binary64 x / 2 ^ 52 % 2048))
+  field_some h = ap thousandths_of (sym bits) ∙ bits_some (to_bits binary64 x) within h

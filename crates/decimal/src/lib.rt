@@ -1,10 +1,9 @@
-// A number as decimal text, written into a lent buffer. What would fall past the buffer's end is counted and not stored.
+// A number as decimal text, put into a lent list.
 #![tactic(auto)]
 
-mod bytes;
 mod lengths;
 mod rounding;
+mod text;
 mod writing;
 
-pub use bytes::{put, put_bytes};
-pub use writing::{put_whole, write_num};
+pub use text::Text;

@@ -9,7 +9,11 @@ use lib.Ieee.{Float, binary64, of_bits, of_int, div, round, neg}
 use Rattle.job.specs.Number.{number}
 use Rattle.job.specs.Grammar.{Anchor, Job, written, anchors_of}
 use Rattle.job.specs.Content.{pair, shape_word, numbers_of, radius_of, shape_words, job_numbers, job_radii}
-use Rattle.job.specs.Reading.{refused, accepted, reading}
+use Rattle.std.proofs.Common.{Ok, Err}
+use Rattle.refusal.specs.declared.Reason.{Reason}
+use Rattle.refusal.specs.declared.Reason.TheVariants.{Unended, Misplaced, Empty, Full}
+use Rattle.refusal.specs.Reasons.{refusal_at}
+use Rattle.job.specs.Reading.{reading}
 
 -- ---- the square of 8 mm, radius 2 at its first corner
 abbrev square_words : List ℕ
@@ -32,7 +36,7 @@ square =
           ∷ [];
     }
 
-square-read : reading square_words ≡ accepted square
+square-read : reading square_words ≡ Ok square
 unfolding reading
 square-read = refl
 
@@ -73,66 +77,66 @@ unfolding number of_bits div of_int round neg
 lowest = refl
 
 -- ---- refusals, each at its place
-abbrev Refuses : List ℕ → ℕ → ℕ → Type 0
-Refuses ws n place = reading ws ≡ refused n place
+abbrev Refuses : List ℕ → Reason → ℕ → Type 0
+Refuses ws r place = reading ws ≡ Err (refusal_at r place)
 
 -- 1: no word at all, no end word after the head or within an anchor, a word after the end word
-no_word : Refuses [] 1 0
+no_word : Refuses [] Unended 0
 unfolding reading
 no_word = refl
 
-head_alone : Refuses (0 ∷ []) 1 1
+head_alone : Refuses (0 ∷ []) Unended 1
 unfolding reading
 head_alone = refl
 
-half-anchor : Refuses (0 ∷ 0x1000_0000 ∷ 0x2000_0000 ∷ []) 1 3
+half-anchor : Refuses (0 ∷ 0x1000_0000 ∷ 0x2000_0000 ∷ []) Unended 3
 unfolding reading
 half-anchor = refl
 
-after-end : Refuses (0 ∷ 0x1000_0000 ∷ 0xF000_0000 ∷ 0xF000_0000 ∷ []) 1 3
+after-end : Refuses (0 ∷ 0x1000_0000 ∷ 0xF000_0000 ∷ 0xF000_0000 ∷ []) Unended 3
 unfolding reading
 after-end = refl
 
 -- 2: the end word first, a second head, a payload that is not listed, no such kind, the radius before a handle, a handle's y without its x
-end_first : Refuses (0xF000_0000 ∷ []) 2 0
+end_first : Refuses (0xF000_0000 ∷ []) Misplaced 0
 unfolding reading
 end_first = refl
 
-second_head : Refuses (0 ∷ 0 ∷ []) 2 1
+second_head : Refuses (0 ∷ 0 ∷ []) Misplaced 1
 unfolding reading
 second_head = refl
 
-head_of_3 : Refuses (3 ∷ []) 2 0
+head_of_3 : Refuses (3 ∷ []) Misplaced 0
 unfolding reading
 head_of_3 = refl
 
-kind_9 : Refuses (0 ∷ 0x1000_0000 ∷ 0x9000_0000 ∷ []) 2 2
+kind_9 : Refuses (0 ∷ 0x1000_0000 ∷ 0x9000_0000 ∷ []) Misplaced 2
 unfolding reading
 kind_9 = refl
 
-radius_first : Refuses (0 ∷ 0x1000_0000 ∷ 0x2000_0000 ∷ 0x3000_0000 ∷ 0x8000_0000 ∷ 0x4000_0000 ∷ []) 2 5
+radius_first : Refuses (0 ∷ 0x1000_0000 ∷ 0x2000_0000 ∷ 0x3000_0000 ∷ 0x8000_0000 ∷ 0x4000_0000 ∷ []) Misplaced 5
 unfolding reading
 radius_first = refl
 
-y_alone : Refuses (0 ∷ 0x1000_0000 ∷ 0x2000_0000 ∷ 0x3000_0000 ∷ 0x5000_0000 ∷ []) 2 4
+y_alone : Refuses (0 ∷ 0x1000_0000 ∷ 0x2000_0000 ∷ 0x3000_0000 ∷ 0x5000_0000 ∷ []) Misplaced 4
 unfolding reading
 y_alone = refl
 
 -- 3: the end word without a subpath; its payload comes first
-no_subpath : Refuses (0 ∷ 0xF000_0000 ∷ []) 3 1
+no_subpath : Refuses (0 ∷ 0xF000_0000 ∷ []) Empty 1
 unfolding reading
 no_subpath = refl
 
-end-of_1 : Refuses (0 ∷ 0xF000_0001 ∷ []) 2 1
+end-of_1 : Refuses (0 ∷ 0xF000_0001 ∷ []) Misplaced 1
 unfolding reading
 end-of_1 = refl
 
 -- 4: subpath 33, a bad payload there, anchor 513 at its kind-2 word
-subpath_33 : Refuses (0 ∷ replicate 33 0x1000_0000 ++ 0xF000_0000 ∷ []) 4 33
+subpath_33 : Refuses (0 ∷ replicate 33 0x1000_0000 ++ 0xF000_0000 ∷ []) Full 33
 unfolding reading
 subpath_33 = refl
 
-subpath_33_of_2 : Refuses (0 ∷ replicate 32 0x1000_0000 ++ 0x1000_0002 ∷ []) 2 33
+subpath_33_of_2 : Refuses (0 ∷ replicate 32 0x1000_0000 ++ 0x1000_0002 ∷ []) Misplaced 33
 unfolding reading
 subpath_33_of_2 = refl
 
@@ -140,6 +144,6 @@ abbrev anchor_words : ℕ → List ℕ
 anchor_words zero = []
 anchor_words (suc n) = 0x2000_0000 ∷ 0x3000_0000 ∷ anchor_words n
 
-anchor_513 : Refuses (0 ∷ 0x1000_0000 ∷ anchor_words 513) 4 1026
+anchor_513 : Refuses (0 ∷ 0x1000_0000 ∷ anchor_words 513) Full 1026
 unfolding reading
 anchor_513 = refl

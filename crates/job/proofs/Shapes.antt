@@ -7,6 +7,8 @@ use Prim.Native.Nat.{ℕ, zero, suc, ◌<◌}
 use native.Mathlib.Omega.{arith}
 use lib.Dec.{ltb, eqb}
 use borrow.Author.Tests.{ltb-true}
+use Rattle.job.specs.declared.kinds.Kind.TheVariants.{Subpath, End}
+use Rattle.job.specs.Kinds.{kind_of}
 use Rattle.job.specs.Words.{Word, word}
 use Rattle.job.specs.Grammar.{pair_then, radius_then, rest_then, anchor_then, anchors_then, subpaths_then, end}
 use Rattle.job.specs.Order.{wholes, rows, payloads}
@@ -44,7 +46,7 @@ pub record Shaped (l : ℕ) (ws : List Word) : Type 0 where
 
 -- a word in front
 abbrev pub Step : ℕ → ℕ → Type 0
-Step l k = (v : ℕ) → ltb v (payloads k) ≡ true → (ws : List Word) → Shaped k ws → Shaped l (word k v ∷ ws)
+Step l k = (v : ℕ) → ltb v (payloads (kind_of k)) ≡ true → (ws : List Word) → Shaped k ws → Shaped l (word k v ∷ ws)
 
 head_step : Step 16 0
 unfolding part_of
@@ -55,8 +57,8 @@ closed_one zero h = refl
 closed_one (suc zero) h = refl
 closed_one (suc (suc v)) h = absurd (omega arith)
 
-subpath-words : (v : ℕ) → ltb v (payloads 1) ≡ true → (ws : List Word) → Shaped 1 ws → word 1 v ∷ ws ≡ rest (part_of (word 1 v ∷ ws))
-unfolding part_of payloads rest_then subpaths_then pair_then radius_then
+subpath-words : (v : ℕ) → ltb v (payloads Subpath) ≡ true → (ws : List Word) → Shaped 1 ws → word 1 v ∷ ws ≡ rest (part_of (word 1 v ∷ ws))
+unfolding part_of payloads rest_then subpaths_then pair_then radius_then kind_of
 subpath-words v b ws h =
     let k = h.lacks in
     ap (λ l. word 1 v ∷ l) (h.words ∙ rw (k.0, k.1, k.2)) ∙ ap (λ u. word 1 u ∷ anchors_then (part_of ws).anchors (subpaths_then (part_of ws).subpaths end)) (closed_one v (ltb-true v 2 b))
@@ -89,8 +91,8 @@ radius-words : (v : ℕ) (ws : List Word) → Shaped 8 ws → word 8 v ∷ ws �
 unfolding part_of rest_then pair_then radius_then
 radius-words v ws h = let k = h.lacks in ap (λ l. word 8 v ∷ l) h.words ∙ rw (k.0, k.1, k.2)
 
-end-words : (v : ℕ) → ltb v (payloads 15) ≡ true → (ws : List Word) → Shaped 15 ws → word 15 v ∷ ws ≡ rest (part_of (word 15 v ∷ ws))
-unfolding part_of payloads rest_then anchors_then subpaths_then pair_then radius_then
+end-words : (v : ℕ) → ltb v (payloads End) ≡ true → (ws : List Word) → Shaped 15 ws → word 15 v ∷ ws ≡ rest (part_of (word 15 v ∷ ws))
+unfolding part_of payloads rest_then anchors_then subpaths_then pair_then radius_then kind_of
 end-words v b ws h = let e : v ≡ 0 = omega (arith, ltb-true v 1 b) in rw (h.words, e)
 
 end_lacks : (v : ℕ) (ws : List Word) → Shaped 15 ws → Lacks 4 (part_of (word 15 v ∷ ws))
@@ -98,7 +100,7 @@ unfolding part_of
 end_lacks v ws h = (rw h.words, rw h.words, rw h.words, rw h.words)
 
 -- after each kind that can end an anchor
-after-whole : (k : ℕ) → ((v : ℕ) → ltb v (payloads k) ≡ true → (ws : List Word) → Shaped k ws → word k v ∷ ws ≡ rest (part_of (word k v ∷ ws)))
+after-whole : (k : ℕ) → ((v : ℕ) → ltb v (payloads (kind_of k)) ≡ true → (ws : List Word) → Shaped k ws → word k v ∷ ws ≡ rest (part_of (word k v ∷ ws)))
     → ((v : ℕ) (ws : List Word) → Shaped k ws → Lacks 3 (part_of (word k v ∷ ws))) → Each (λ l. Step l k) wholes
 after-whole k words bare = (
   λ v b ws h. record { words = words v b ws h; lacks = bare v ws h },
@@ -113,7 +115,7 @@ after-whole k words bare = (
 
 -- every row
 pub steps : Each (λ r. Each (λ l. Step l r.kind) r.after) rows
-unfolding part_of
+unfolding part_of kind_of
 steps =
     let subpath-lacks : (v : ℕ) (ws : List Word) → Lacks 4 (part_of (word 1 v ∷ ws)) = λ v ws. (refl, refl, refl, refl) in
     let out_step : Step 3 6 = λ v b ws h. record { words = out_words v ws h; lacks = tt } in

@@ -7,14 +7,16 @@ use native.Mathlib.Omega.{arith}
 use lib.Dec.{ltb}
 use lib.ListN.{length}
 use borrow.Author.Tests.{lt-ltb, ltb-true}
+use Rattle.job.specs.declared.kinds.Kind.TheVariants.{Head}
 use Rattle.job.specs.declared.order.Seen.{Seen}
-use Rattle.job.specs.declared.reading.Scan.{Scan}
-use Rattle.job.specs.declared.reading.Scan.TheVariants.{Refused, Done}
+use Rattle.std.proofs.Common.{Result, Ok, Err}
+use Rattle.refusal.specs.declared.Refusal.{Refusal}
 use Rattle.job.specs.Words.{Word, word, split, joined, word_list}
 use Rattle.job.specs.Grammar.{Job, rest_then, pair_then, radius_then, anchors_then, subpaths_then, end, spelled, written, anchors_of, in_range, Within}
+use Rattle.job.specs.Kinds.{kind_of}
 use Rattle.job.specs.Order.{payloads, advance, start, Fair}
 use Rattle.job.specs.Content.{job_of}
-use Rattle.job.specs.Reading.{scan_from, scanned, accepted, reading_of, reading}
+use Rattle.job.specs.Reading.{scan_from, scanned, reading_of, reading}
 use Rattle.job.proofs.Shapes.{Shaped}
 use Rattle.job.proofs.Scans.{scan_word, scan_shaped, scan_counts, scan_fair, scan_some, scan_head}
 use Rattle.job.proofs.Spelling.{job-back}
@@ -53,7 +55,7 @@ pub record Scanned (ws : List Word) (t : Seen) : Type 0 where
   pub some_subpath : 1 ≤ t.subpaths
   pub fair : Fair t
 
-module _ (ws : List Word) (t : Seen) (h : scan_from start 0 ws ≡ Done t) where
+module _ (ws : List Word) (t : Seen) (h : scan_from start 0 ws ≡ Ok t) where
   shaped : Shaped 16 ws
   shaped = scan_shaped ws start 0 t h
 
@@ -62,16 +64,16 @@ module _ (ws : List Word) (t : Seen) (h : scan_from start 0 ws ≡ Done t) where
   as_spelled = let k = shaped.lacks in shaped.words ∙ rw (k.0, k.1, k.2, k.3)
 
   -- the head, read first
-  first : scan_from start 0 (word 0 (job_of ws).kind ∷ subpaths_then (job_of ws).subpaths end) ≡ Done t
+  first : scan_from start 0 (word 0 (job_of ws).kind ∷ subpaths_then (job_of ws).subpaths end) ≡ Ok t
   unfolding spelled
   first = ap (scan_from start 0) (sym as_spelled) ∙ h
 
   head_is : t.head ≡ (job_of ws).kind
-  unfolding advance
-  head_is = scan_head (subpaths_then (job_of ws).subpaths end) (advance start 0 (job_of ws).kind) 1 t (λ e. omega arith) (scan_word start 0 0 (job_of ws).kind _ t first).1
+  unfolding advance kind_of
+  head_is = scan_head (subpaths_then (job_of ws).subpaths end) (advance start Head (job_of ws).kind) 1 t (λ e. omega arith) (scan_word start 0 0 (job_of ws).kind _ t first).1
 
   known_is : (job_of ws).kind < 3
-  unfolding payloads
+  unfolding payloads kind_of
   known_is = ltb-true (job_of ws).kind 3 (scan_word start 0 0 (job_of ws).kind _ t first).0.listed
 
   pub scan_scanned : Scanned ws t
@@ -91,14 +93,14 @@ module _ (ws : List Word) (t : Seen) (h : scan_from start 0 ws ≡ Done t) where
 
 -- ---- the theorems
 -- every job within the limits is read as itself
-pub complete : (j : Job) → Within j → reading (written j) ≡ accepted j
+pub complete : (j : Job) → Within j → reading (written j) ≡ Ok j
 unfolding written reading reading_of scanned
 complete j w =
     let e = split-joined (spelled j) w.payloads in
     ap₂ reading_of (ap (scan_from start 0) e ∙ (accepted_spelling j w).1) (ap job_of e ∙ job-back j)
 
 -- every list of words that is read is what its job writes, and that job is within the limits
-pub sound : (ws : List ℕ) (j : Job) → reading ws ≡ accepted j → (ws ≡ written j) × Within j
+pub sound : (ws : List ℕ) (j : Job) → reading ws ≡ Ok j → (ws ≡ written j) × Within j
 unfolding reading reading_of scanned written
 sound ws j = go (scanned ws) refl
   where
@@ -115,9 +117,9 @@ sound ws j = go (scanned ws) refl
           payloads = ap in_range (sym c.words) ∙ split-small ws;
         }
 
-    go : (r : Scan) → scanned ws ≡ r → reading_of r (job_of (word_list ws)) ≡ accepted j → (ws ≡ written j) × Within j
-    go (Refused n place) e h = let z : ◌≡◌ {A = ℕ} 0 1 = cc in absurd (omega arith)
-    go (Done t) e h =
+    go : (r : Result Seen Refusal) → scanned ws ≡ r → reading_of r (job_of (word_list ws)) ≡ Ok j → (ws ≡ written j) × Within j
+    go (Err r) e h = let z : ◌≡◌ {A = ℕ} 0 1 = cc in absurd (omega arith)
+    go (Ok t) e h =
         let c = scan_scanned (word_list ws) t e in
         let i : job_of (word_list ws) ≡ j = cc in
         subst (λ k. (ws ≡ written k) × Within k) i (sym (joined-split ws) ∙ ap (map joined) c.words, within t c)

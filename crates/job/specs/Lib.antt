@@ -1,4 +1,5 @@
 pub mod Words
+pub mod Kinds
 pub mod Number
 pub mod Grammar
 pub mod Order

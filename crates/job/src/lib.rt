@@ -1,10 +1,10 @@
 // The job file (document 01, 'Job file and program'): little-endian words, and the order in which they may come.
 #![tactic(auto)]
 
+mod kinds;
 mod order;
-mod reading;
 mod words;
 
-pub use order::{Seen, advance, refusal_of};
-pub use reading::Scan;
-pub use words::{number, word_at};
+pub use kinds::{Kind, UnknownKind};
+pub use order::Seen;
+pub use words::{Word, number, word_at};

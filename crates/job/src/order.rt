@@ -1,114 +1,163 @@
-// The order of a job's words: which may come, by the last one's kind and by how much has been read. The kinds are 0 head, 1 subpath, 2 and 3
-// an anchor's point, 4 and 5 its handle in, 6 and 7 its handle out, 8 its radius, 15 end; x comes before y.
-ghost use Rattle.std.specs.Prelude.{◌≡◌};
-ghost use Rattle.job.specs.Order.{is_whole, may_follow, payloads, is_full, refusal_of, advance, Fair};
+// The order of a job's words: which may come, by the last one's kind and by how much has been read.
+ghost use Rattle.std.specs.Prelude.{◌≡◌, ◌&&◌, None, eqb, ltb};
+ghost use Rattle.job.specs.Kinds.{number_of_kind, last_number};
+ghost use Rattle.job.specs.Order.{is_whole, may_follow, payloads, is_full, last_of, refusal_of, tested, advance, start, Fair};
 
-// What has been read: the head's payload, the last word's kind (16 before the first), the shape word of the subpath
+use crate::kinds::Kind;
+use crate::words::Word;
+use refusal::Reason;
+
+impl Kind {
+    // Whether a word of this kind can end an anchor, or a subpath without one.
+    #[tactic(auto, unfolding(crate::specs::Order::is_whole, crate::specs::Order::member))]
+    fn is_whole(self) -> bool
+        ensures { result ≡ is_whole (number_of_kind self) }
+    {
+        match self {
+            Kind::Subpath | Kind::Y | Kind::InY | Kind::OutY | Kind::Radius => true,
+            _ => false,
+        }
+    }
+
+    // Whether a word of this kind may come after the last one, or first.
+    #[tactic(auto, unfolding(crate::specs::Order::is_whole, crate::specs::Order::may_follow, crate::specs::Order::member, crate::specs::Order::after_in))]
+    fn may_follow(self, last: Option<Kind>) -> bool
+        ensures { result ≡ may_follow (last_number last) (number_of_kind self) }
+    {
+        let Some(last) = last else {
+            return self == Kind::Head;
+        };
+        match self {
+            Kind::Head => false,
+            Kind::Subpath | Kind::End => last == Kind::Head || last.is_whole(),
+            Kind::X => last.is_whole(),
+            Kind::Y => last == Kind::X,
+            Kind::InX => last == Kind::Y,
+            Kind::InY => last == Kind::InX,
+            Kind::OutX => matches!(last, Kind::Y | Kind::InY),
+            Kind::OutY => last == Kind::OutX,
+            Kind::Radius => matches!(last, Kind::Y | Kind::InY | Kind::OutY),
+        }
+    }
+
+    // How many payloads, from 0 on, a word of this kind may have.
+    #[tactic(auto, unfolding(crate::specs::Order::payloads))]
+    fn payloads(self) -> u32
+        ensures { result ≡ payloads self }
+    {
+        match self {
+            Kind::Head => 3,
+            Kind::Subpath => 2,
+            Kind::End => 1,
+            _ => 268435456,
+        }
+    }
+}
+
+// What has been read: the head's payload, the last word's kind (none before the first), the shape word of the subpath
 // so far, and how many subpaths and anchors have begun.
-#[derive(Clone, Copy)]
+#[derive(Clone, Copy, Debug, PartialEq, Eq, Hash)]
 pub struct Seen {
     pub head: u32,
-    pub last: u32,
+    pub last: Option<Kind>,
     pub shape: u32,
     pub subpaths: usize,
     pub anchors: usize,
 }
 
-// Whether a word of this kind can end an anchor, or a subpath without one.
-fn is_whole(last: u32) -> bool
-    ensures { result ≡ is_whole last }
-{
-    match last {
-        8 => true,
-        1 | 3 | 5 | 7 => true,
-        _ => false,
+impl Seen {
+    // Nothing yet.
+    pub fn start() -> Self
+        ensures { result ≡ start }
+    {
+        Seen {
+            head: 0,
+            last: None,
+            shape: 0,
+            subpaths: 0,
+            anchors: 0,
+        }
     }
-}
 
-// Whether a word of this kind may come after one of kind `last`.
-fn may_follow(last: u32, kind: u32) -> bool
-    ensures { result ≡ may_follow last kind }
-{
-    match kind {
-        0 => last == 16,
-        1 | 15 => last == 0 || is_whole(last),
-        2 => is_whole(last),
-        3 => last == 2,
-        4 => last == 3,
-        5 => last == 4,
-        6 => last == 3 || last == 5,
-        7 => last == 6,
-        8 => match last {
-            3 | 5 | 7 => true,
+    // Whether the last word was the end word.
+    pub fn is_ended(&self) -> bool
+        ensures { result ≡ eqb (last_of self.now) 15 }
+    {
+        self.last == Some(Kind::End)
+    }
+
+    // Whether a word of this kind begins subpath 33 or anchor 513.
+    #[tactic(auto, unfolding(crate::specs::Order::is_full))]
+    fn is_full(&self, kind: Kind) -> bool
+        ensures { result ≡ is_full self.now kind }
+    {
+        match kind {
+            Kind::Subpath => self.subpaths >= 32,
+            Kind::X => self.anchors >= 512,
             _ => false,
-        },
-        _ => false,
-    }
-}
-
-// How many payloads, from 0 on, a word of this kind may have.
-fn payloads(kind: u32) -> u32
-    ensures { result ≡ payloads kind }
-{
-    match kind {
-        0 => 3,
-        1 => 2,
-        15 => 1,
-        _ => 268435456,
-    }
-}
-
-// Whether a word of this kind begins subpath 33 or anchor 513.
-fn is_full(seen: Seen, kind: u32) -> bool
-    ensures { result ≡ is_full seen kind }
-{
-    match kind {
-        1 => seen.subpaths >= 32,
-        2 => seen.anchors >= 512,
-        _ => false,
-    }
-}
-
-// The number of the refusal that a word meets, and 0 where it is read.
-pub fn refusal_of(seen: Seen, kind: u32, payload: u32) -> u32
-    ensures { result ≡ refusal_of seen kind payload }
-{
-    if seen.last == 15 {
-        return 1;
-    }
-    if !may_follow(seen.last, kind) {
-        return 2;
-    }
-    if payload >= payloads(kind) {
-        return 2;
-    }
-    if kind != 15 {
-        return if is_full(seen, kind) { 4 } else { 0 };
-    }
-    if seen.subpaths == 0 { 3 } else { 0 }
-}
-
-// What has been read after one word more.
-pub fn advance(seen: Seen, kind: u32, payload: u32) -> Seen
-    requires fair { Fair seen }
-    requires passes { refusal_of seen kind payload ≡ 0 }
-    ensures { result ≡ advance seen kind payload }
-{
-    let mut next = seen;
-    next.last = kind;
-    match kind {
-        0 => {
-            next.head = payload;
         }
-        1 => {
-            next.shape = payload * 2147483648;
-            next.subpaths = seen.subpaths + 1;
-        }
-        2 => {
-            next.shape = seen.shape + 1;
-            next.anchors = seen.anchors + 1;
-        }
-        _ => {}
     }
-    next
+
+    // Whether a word may stand here: its kind in order, with a payload that is listed for it.
+    fn takes(&self, word: Word) -> bool
+        ensures { result ≡ (may_follow (last_of self.now) (number_of_kind word.kind) && ltb word.payload (payloads word.kind)) }
+    {
+        word.kind.may_follow(self.last) && word.payload < word.kind.payloads()
+    }
+
+    // Whether a word of this kind ends a job without a subpath.
+    fn ends_empty(&self, kind: Kind) -> bool
+        ensures { result ≡ (eqb (number_of_kind kind) 15 && eqb self.now.subpaths 0) }
+    {
+        kind == Kind::End && self.subpaths == 0
+    }
+
+    // A word of a file by its kind and payload, or why it is refused.
+    #[tactic(auto, using(crate::proofs::Orders::unknown, crate::proofs::Orders::kind_back), unfolding(crate::specs::Order::tested, crate::specs::Order::unless, crate::specs::Order::refusal_of))]
+    pub fn test(&self, bits: u32) -> Result<Word, Reason>
+        ensures { result ≡ tested self.now bits }
+    {
+        if self.is_ended() {
+            return Err(Reason::Unended);
+        }
+        let Ok(kind) = Kind::try_from(bits / 268435456) else {
+            return Err(Reason::Misplaced);
+        };
+        let word = Word {
+            kind,
+            payload: bits % 268435456,
+        };
+        if !self.takes(word) {
+            return Err(Reason::Misplaced);
+        }
+        if self.ends_empty(kind) {
+            return Err(Reason::Empty);
+        }
+        if self.is_full(kind) {
+            return Err(Reason::Full);
+        }
+        Ok(word)
+    }
+
+    // Reads one word more, which has passed its test.
+    #[tactic(auto, unfolding(crate::specs::Order::advance, crate::specs::Order::count_subpath, crate::specs::Order::count_anchor, crate::specs::Order::shape_after, crate::specs::Order::head_after))]
+    pub fn advance(&mut self, word: Word)
+        requires fair { Fair self.old }
+        requires passes { refusal_of self.old (number_of_kind word.kind) word.payload ≡ None }
+        ensures { self.new ≡ advance self.old word.kind word.payload }
+    {
+        self.last = Some(word.kind);
+        match word.kind {
+            Kind::Head => self.head = word.payload,
+            Kind::Subpath => {
+                self.shape = word.payload * 2147483648;
+                self.subpaths += 1;
+            }
+            Kind::X => {
+                self.shape += 1;
+                self.anchors += 1;
+            }
+            _ => {}
+        }
+    }
 }

@@ -13,13 +13,15 @@ use Rattle.views.specs.View.{entry, overwrite}
 use Rattle.views.proofs.Laws.{overwrite_cong}
 use Rattle.views.proofs.Runs.{get_d_sets_in}
 use Rattle.job.specs.declared.order.Seen.{Seen}
-use Rattle.job.specs.declared.reading.Scan.TheVariants as scan
-use Rattle.job_calls.specs.declared.call.Job.TheVariants.{Refused, Read}
+use Rattle.std.proofs.Common.{Ok, Err}
+use Rattle.refusal.specs.declared.Reason.TheVariants.{Unended, Output}
+use Rattle.refusal.specs.declared.Refusal.{Refusal}
+use Rattle.refusal.specs.Reasons.{refusal_at}
 use Rattle.job.specs.Words.{words_of}
 use Rattle.job.specs.Grammar.{Job}
 use Rattle.job.specs.Content.{job_of, shape_word, shape_words, radius_of, job_anchors, job_numbers, job_radii}
 use Rattle.job.specs.Lists.{lay_shapes, lay_numbers, lay_radii}
-use Rattle.job.specs.Reading.{scanned, refused, accepted, reading_of, reading}
+use Rattle.job.specs.Reading.{scanned, reading_of, reading}
 use Rattle.job_calls.specs.Call.{file_read, roomed, outcome, answer_of, shapes_left, anchors_left, radii_left, room_for, room_in, handed_answer, handed, answer_read, shapes_read, anchors_read, radii_read}
 use Rattle.job.proofs.Theorems.{Scanned, scan_scanned}
 use Rattle.job.proofs.Laying.{shapes_laid, numbers-laid, numbers-length, radii_laid}
@@ -44,7 +46,7 @@ roomy m n a b c = go (leb m a) refl (leb (n * 6) b) refl (leb n c) refl
 
 module _ (bytes shapes : List ℕ) (anchors radii : List Float) where
   -- ---- refused
-  pub length_fails : (length bytes % 4 ≡ 0 → ⊥) → outcome bytes shapes anchors radii ≡ refused 1 (length bytes / 4)
+  pub length_fails : (length bytes % 4 ≡ 0 → ⊥) → outcome bytes shapes anchors radii ≡ Err (refusal_at Unended (length bytes / 4))
   unfolding outcome
   length_fails n = rw (ne_eqb (length bytes % 4) 0 n)
 
@@ -52,13 +54,13 @@ module _ (bytes shapes : List ℕ) (anchors radii : List Float) where
   unfolding file_read
   file h = rw (eq-eqb (length bytes % 4) 0 h)
 
-  pub word_fails : length bytes % 4 ≡ 0 → (n place : ℕ) → scanned (words_of bytes) ≡ scan.Refused n place → outcome bytes shapes anchors radii ≡ refused n place
+  pub word_fails : length bytes % 4 ≡ 0 → (r : Refusal) → scanned (words_of bytes) ≡ Err r → outcome bytes shapes anchors radii ≡ Err r
   unfolding outcome reading
-  word_fails h n place e = ap (λ r. roomed r (length shapes) (length anchors) (length radii)) (file h ∙ ap (λ r. reading_of r (job_of (words_in bytes))) e)
+  word_fails h r e = ap (λ r. roomed r (length shapes) (length anchors) (length radii)) (file h ∙ ap (λ r. reading_of r (job_of (words_in bytes))) e)
 
   -- what a refusal answers and leaves
-  module _ (n place : ℕ) (e : outcome bytes shapes anchors radii ≡ refused n place) where
-    pub refused-answer : Refused n place ≡ answer_read bytes shapes anchors radii
+  module _ (r : Refusal) (e : outcome bytes shapes anchors radii ≡ Err r) where
+    pub refused-answer : Err r ≡ answer_read bytes shapes anchors radii
     unfolding answer_read answer_of
     refused-answer = sym (ap answer_of e)
 
@@ -75,7 +77,7 @@ module _ (bytes shapes : List ℕ) (anchors radii : List Float) where
     refused_radii = sym (ap (λ r. radii_left r radii) e)
 
   -- ---- read to the end word
-  module _ (whole : length bytes % 4 ≡ 0) (t : Seen) (done : scanned (words_of bytes) ≡ scan.Done t) where
+  module _ (whole : length bytes % 4 ≡ 0) (t : Seen) (done : scanned (words_of bytes) ≡ Ok t) where
     abbrev j : Job
     j = job_of (words_in bytes)
 
@@ -83,23 +85,23 @@ module _ (bytes shapes : List ℕ) (anchors radii : List Float) where
     unfolding scanned
     facts = scan_scanned (words_in bytes) t done
 
-    read-job : file_read bytes ≡ accepted j
+    read-job : file_read bytes ≡ Ok j
     unfolding reading reading_of
     read-job = file whole ∙ ap (λ r. reading_of r j) done
 
     room-is : room_for t.subpaths t.anchors (length shapes) (length anchors) (length radii) ≡ room_for (length j.subpaths) (length (job_anchors j)) (length shapes) (length anchors) (length radii)
     room-is = rw (facts.subpaths, facts.anchors)
 
-    room_fails : room_for t.subpaths t.anchors (length shapes) (length anchors) (length radii) ≡ false → outcome bytes shapes anchors radii ≡ refused 8 0
+    room_fails : room_for t.subpaths t.anchors (length shapes) (length anchors) (length radii) ≡ false → outcome bytes shapes anchors radii ≡ Err (refusal_at Output 0)
     unfolding outcome roomed
     room_fails e = rw (read-job, sym room-is ∙ e)
 
     module _ (room : room_for t.subpaths t.anchors (length shapes) (length anchors) (length radii) ≡ true) where
-      all_hold : outcome bytes shapes anchors radii ≡ accepted j
+      all_hold : outcome bytes shapes anchors radii ≡ Ok j
       unfolding outcome roomed
       all_hold = rw (read-job, sym room-is ∙ room)
 
-      read_answer : Read t.head t.subpaths t.anchors ≡ answer_read bytes shapes anchors radii
+      read_answer : Ok (record { kind = t.head; subpaths = t.subpaths; anchors = t.anchors }) ≡ answer_read bytes shapes anchors radii
       unfolding answer_read answer_of
       read_answer = rw (facts.head, facts.subpaths, facts.anchors) (sym (ap answer_of all_hold))
 
@@ -142,9 +144,9 @@ module _ (bytes shapes : List ℕ) (anchors radii : List Float) where
     unfolding handed_answer
     handed-answer = go room refl
       where
-        go : (b : Bool) → room ≡ b → cond b (Read t.head t.subpaths t.anchors) (Refused 8 0) ≡ answer_read bytes shapes anchors radii
+        go : (b : Bool) → room ≡ b → cond b (Ok (record { kind = t.head; subpaths = t.subpaths; anchors = t.anchors })) (Err (refusal_at Output 0)) ≡ answer_read bytes shapes anchors radii
         go true e = read_answer e
-        go false e = refused-answer 8 0 (room_fails e)
+        go false e = refused-answer (refusal_at Output 0) (room_fails e)
 
     pub handed_shapes_lem : (zs ws : List ℕ) → length zs ≡ 32 → ws ≡ lay_shapes 0 0 (words_in bytes) zs → handed room t.subpaths (λ i. get_or ws i 0) shapes ≡ shapes_read bytes shapes anchors radii
     unfolding handed
@@ -152,7 +154,7 @@ module _ (bytes shapes : List ℕ) (anchors radii : List Float) where
       where
         go : (b : Bool) → room ≡ b → cond b (overwrite t.subpaths (λ i. get_or ws i 0) shapes) shapes ≡ shapes_read bytes shapes anchors radii
         go true e = read_shapes e zs ws l laid
-        go false e = refused_shapes 8 0 (room_fails e)
+        go false e = refused_shapes (refusal_at Output 0) (room_fails e)
 
     pub handed_anchors_lem : (zs ws : List Float) → length zs ≡ 3072 → ws ≡ lay_numbers 0 (words_in bytes) zs → handed room (t.anchors * 6) (entry ws) anchors ≡ anchors_read bytes shapes anchors radii
     unfolding handed
@@ -160,7 +162,7 @@ module _ (bytes shapes : List ℕ) (anchors radii : List Float) where
       where
         go : (b : Bool) → room ≡ b → cond b (overwrite (t.anchors * 6) (entry ws) anchors) anchors ≡ anchors_read bytes shapes anchors radii
         go true e = read_anchors e zs ws l laid
-        go false e = refused_anchors 8 0 (room_fails e)
+        go false e = refused_anchors (refusal_at Output 0) (room_fails e)
 
     pub handed_radii : (zs ws : List Float) → length zs ≡ 512 → ws ≡ lay_radii 0 (words_in bytes) zs → handed room t.anchors (entry ws) radii ≡ radii_read bytes shapes anchors radii
     unfolding handed
@@ -168,4 +170,4 @@ module _ (bytes shapes : List ℕ) (anchors radii : List Float) where
       where
         go : (b : Bool) → room ≡ b → cond b (overwrite t.anchors (entry ws) radii) radii ≡ radii_read bytes shapes anchors radii
         go true e = read_radii e zs ws l laid
-        go false e = refused_radii 8 0 (room_fails e)
+        go false e = refused_radii (refusal_at Output 0) (room_fails e)

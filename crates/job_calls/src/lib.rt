@@ -3,5 +3,7 @@
 
 mod call;
 mod lists;
+mod result;
 
-pub use call::{Job, read};
+pub use call::read;
+pub use result::Read;

@@ -1,54 +1,93 @@
-// What one word puts into the lists of a drawing.
-ghost use Rattle.std.specs.Prelude.{◌≡◌, ◌-◌, ◌≤◌};
-ghost use Rattle.job.specs.Lists.{put_shape, put_number, put_radius};
+// Lists with room for any job, and what one word puts into them.
+ghost use Rattle.std.specs.Prelude.{◌≡◌, ◌≤◌, replicate};
+ghost use Rattle.real.specs.Operators.{0f};
+ghost use Rattle.job.specs.Lists.{coordinate, put_shape, put_number, put_radius};
 
-// The index of the last of n, and 0 where there is none.
-fn last_of(n: usize) -> usize
-    ensures { result ≡ n - 1 }
-{
-    if n == 0 { 0 } else { n - 1 }
+use job::{Kind, Seen, Word};
+
+// A drawing's lists while it is read.
+#[derive(Drop)]
+pub struct Lists {
+    pub shapes: [u32; 32],
+    pub numbers: [f64; 3072],
+    pub radii: [f64; 512],
 }
 
-// The shape word of the last of so many subpaths, where the word that was read changes it.
-pub fn put_shape(shapes: &mut [u32; 32], subpaths: usize, kind: u32, shape: u32)
-    requires { subpaths ≤ 32 }
-    ensures { shapes.new ≡ put_shape subpaths kind shape shapes.old }
+// Which of an anchor's six numbers a word of this kind is.
+fn coordinate(kind: Kind) -> Option<usize>
+    ensures { result ≡ coordinate kind }
 {
-    if kind == 1 || kind == 2 {
-        shapes[last_of(subpaths)] = shape;
-    }
-}
-
-// A coordinate of the last of so many anchors. One of p stands in for both handles' until these come.
-pub fn put_number(numbers: &mut [f64; 3072], anchors: usize, kind: u32, payload: u32)
-    requires { (anchors ≤ 512) × (payload ≤ 268435456) }
-    ensures { numbers.new ≡ put_number anchors kind payload numbers.old }
-{
-    if kind < 2 {
-        return;
-    }
-    if kind > 7 {
-        return;
-    }
-    let at = last_of(anchors) * 6 + (kind - 2) as usize;
-    let x = job::number(payload);
-    numbers[at] = x;
-    if kind < 4 {
-        numbers[at + 2] = x;
-        numbers[at + 4] = x;
+    match kind {
+        Kind::X => Some(0),
+        Kind::Y => Some(1),
+        Kind::InX => Some(2),
+        Kind::InY => Some(3),
+        Kind::OutX => Some(4),
+        Kind::OutY => Some(5),
+        _ => None,
     }
 }
 
-// The radius of the last of so many anchors: 0 until it comes.
-pub fn put_radius(radii: &mut [f64; 512], anchors: usize, kind: u32, payload: u32)
-    requires { (anchors ≤ 512) × (payload ≤ 268435456) }
-    ensures { radii.new ≡ put_radius anchors kind payload radii.old }
-{
-    if kind == 2 {
-        radii[last_of(anchors)] = 0.0;
-        return;
+impl Lists {
+    pub fn new() -> Self
+        ensures shapes { result.shapes ≡ replicate 32 0 }
+        ensures numbers { result.numbers ≡ replicate 3072 0f }
+        ensures radii { result.radii ≡ replicate 512 0f }
+    {
+        Lists {
+            shapes: [0; 32],
+            numbers: [0.0; 3072],
+            radii: [0.0; 512],
+        }
     }
-    if kind == 8 {
-        radii[last_of(anchors)] = job::number(payload);
+
+    // The shape word of the last subpath, where the word that was read changes it.
+    #[tactic(auto, unfolding(job::specs::Lists::put_shape))]
+    pub fn put_shape(&mut self, seen: &Seen, word: Word)
+        requires { seen.now.subpaths ≤ 32 }
+        ensures shapes { self.new.shapes ≡ put_shape seen.now.subpaths word.kind seen.now.shape self.old.shapes }
+        ensures numbers { self.new.numbers ≡ self.old.numbers }
+        ensures radii { self.new.radii ≡ self.old.radii }
+    {
+        if matches!(word.kind, Kind::Subpath | Kind::X) {
+            self.shapes[seen.subpaths.saturating_sub(1)] = seen.shape;
+        }
+    }
+
+    // A coordinate of the last anchor. One of p stands in for both handles' until these come.
+    #[tactic(auto, unfolding(job::specs::Lists::put_number, job::specs::Lists::put_coordinate))]
+    pub fn put_number(&mut self, seen: &Seen, word: Word)
+        requires { (seen.now.anchors ≤ 512) × (word.payload ≤ 268435456) }
+        ensures shapes { self.new.shapes ≡ self.old.shapes }
+        ensures numbers { self.new.numbers ≡ put_number seen.now.anchors word.kind word.payload self.old.numbers }
+        ensures radii { self.new.radii ≡ self.old.radii }
+    {
+        let Some(coordinate) = coordinate(word.kind) else {
+            return;
+        };
+        let at = seen.anchors.saturating_sub(1) * 6 + coordinate;
+        let x = job::number(word.payload);
+        self.numbers[at] = x;
+        if coordinate < 2 {
+            self.numbers[at + 2] = x;
+            self.numbers[at + 4] = x;
+        }
+    }
+
+    // The radius of the last anchor: 0 until it comes.
+    #[tactic(auto, unfolding(job::specs::Lists::put_radius))]
+    pub fn put_radius(&mut self, seen: &Seen, word: Word)
+        requires { (seen.now.anchors ≤ 512) × (word.payload ≤ 268435456) }
+        ensures shapes { self.new.shapes ≡ self.old.shapes }
+        ensures numbers { self.new.numbers ≡ self.old.numbers }
+        ensures radii { self.new.radii ≡ put_radius seen.now.anchors word.kind word.payload self.old.radii }
+    {
+        match word.kind {
+            Kind::X => self.radii[seen.anchors.saturating_sub(1)] = 0.0,
+            Kind::Radius => {
+                self.radii[seen.anchors.saturating_sub(1)] = job::number(word.payload);
+            }
+            _ => {}
+        }
     }
 }

@@ -33,7 +33,7 @@ use Rattle.assembly.specs.Assembled.{outline_of, outline_shapes, outline_words}
 use Rattle.assembly.proofs.Outlined.{outline-total, words-length, words-written}
 use Rattle.cut_calls.specs.PlainCut.{sub_at, view_at, cut_up_to, cut_shape}
 use Rattle.cut_calls.specs.Made.{made_verdict}
-use Rattle.cut_calls.specs.CornerKinds.{kind_of}
+use Rattle.corner.specs.Kinds.{kind_of}
 use Rattle.cut_corners.specs.Calls.{cut_outline, cut_words, cut_verdict, cut_answer, cut_shapes_left, cut_anchors_left}
 use Rattle.cut_corners.proofs.Outcomes.{as_made}
 use Rattle.cut_calls.proofs.Handed.{outline_few}

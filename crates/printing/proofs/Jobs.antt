@@ -1,5 +1,5 @@
 -- What a job that is read gives: lists of a drawing that passes its tests, so that 5 and 7 cannot follow. Assumes nothing.
-use mathlib.Core.Path.{◌≡◌, refl, sym, ◌∙◌}
+use mathlib.Core.Path.{◌≡◌, refl, sym, subst, ◌∙◌}
 use mathlib.Core.Bool.{Bool, true, false, cond}
 use mathlib.Core.List.{List, [], ◌∷◌, map}
 use Prim.Native.Nat.{ℕ, zero, suc, ◌+◌, ◌*◌, ◌/◌, ◌%◌, ◌≤◌, ◌<◌}
@@ -16,16 +16,19 @@ use Rattle.path.specs.Limit.{place_in}
 use Rattle.path.proofs.Limits.{GoodBelow, anchor_in_lem, place_in_lem}
 use Rattle.path.proofs.Shapes.{Fits}
 use Rattle.call.proofs.Openings.{drawing_good, drawing_opens}
-use Rattle.corner.specs.declared.cut.CornerKind.{CornerKind}
-use Rattle.corner.specs.declared.cut.CornerKind.TheVariants.{Round, Inverted, Chamfer}
-use Rattle.cut_calls.specs.declared.kinds.Kind.TheVariants.{Known}
-use Rattle.cut_calls.specs.CornerKinds.{kind_of}
+use Rattle.corner.specs.declared.kind.CornerKind.{CornerKind}
+use Rattle.corner.specs.declared.kind.CornerKind.TheVariants.{Round, Inverted, Chamfer}
+use Rattle.std.proofs.Common.{Some, Result, Ok, Err}
+use Rattle.refusal.specs.declared.Refusal.{Refusal}
+use Rattle.refusal.specs.Reasons.{number_of, refusal_at}
+use Rattle.refusal.specs.declared.Reason.TheVariants.{Unended}
+use Rattle.corner.specs.Kinds.{kind_of}
 use Rattle.cache.proofs.Accepted.{Drawn}
-use Rattle.job_calls.specs.declared.call.Job.TheVariants as answer
+use Rattle.job_calls.specs.declared.result.Read.{Read}
 use Rattle.job.specs.Words.{words_of}
 use Rattle.job.specs.Grammar.{Subpath, Job, anchors_of, Within}
 use Rattle.job.specs.Content.{shape_word, shape_words, radius_of, job_anchors, job_numbers, job_radii}
-use Rattle.job.specs.Reading.{Reading, refused, accepted, reading}
+use Rattle.job.specs.Reading.{reading}
 use Rattle.job_calls.specs.Call.{file_read, room_for, roomed, outcome, answer_of, shapes_left, anchors_left, radii_left, answer_read, shapes_read, anchors_read, radii_read}
 use Rattle.job.proofs.Theorems.{sound}
 use Rattle.job.proofs.Numbers.{job-numbers_in, job_radii_in, shape_count}
@@ -43,7 +46,7 @@ total_anchors (s ∷ ss) h =
     let c = shape_count s (omega arith) in
     omega arith
 
-known_by : (k : ℕ) → k < 3 → (way : CornerKind) × (kind_of k ≡ Known way)
+known_by : (k : ℕ) → k < 3 → (way : CornerKind) × (kind_of k ≡ Some way)
 unfolding kind_of
 known_by zero h = (Round, refl)
 known_by (suc zero) h = (Inverted, refl)
@@ -78,16 +81,13 @@ module _ (j : Job) (w : Within j) where
       }
 
 -- ---- what a file is read as
-pub file_sound : (bytes : List ℕ) (j : Job) → file_read bytes ≡ accepted j → Within j
+pub file_sound : (bytes : List ℕ) (j : Job) → file_read bytes ≡ Ok j → Within j
 unfolding file_read
 file_sound bytes j = go (eqb (length bytes % 4) 0)
   where
-    differ : (n place : ℕ) → refused n place ≡ accepted j → ⊥
-    differ n place e = let z : ◌≡◌ {A = ℕ} 0 1 = cc in omega arith
-
-    go : (b : Bool) → cond b (reading (words_of bytes)) (refused 1 (length bytes / 4)) ≡ accepted j → Within j
+    go : (b : Bool) → cond b (reading (words_of bytes)) (Err (refusal_at Unended (length bytes / 4))) ≡ Ok j → Within j
     go true e = (sound (words_of bytes) j e).1
-    go false e = absurd (differ _ _ e)
+    go false e = let z : ◌≡◌ {A = ℕ} 0 1 = cc in absurd (omega arith)
 
 -- the first entries of a list, once as many were written
 front : {A : Type 0} (d : A) (vs xs : List A) (n : ℕ) → n ≡ length vs → n ≤ length xs → take n (overwrite n (λ i. get_or vs i d) xs) ≡ vs
@@ -98,36 +98,36 @@ front d vs xs n e h =
     get_or-take n _ i d k ∙ at_overwrite d n _ xs i k (omega arith))
 
 -- a job that was read into lists that have room for any
-pub record Given (bytes shapes : List ℕ) (anchors radii : List Float) (kind m n : ℕ) : Type 0 where
+pub record Given (bytes shapes : List ℕ) (anchors radii : List Float) (r : Read) : Type 0 where
   pub job : Job
   pub within : Within job
-  pub read : file_read bytes ≡ accepted job
-  pub kind-is : kind ≡ job.kind
-  pub words : take m (shapes_read bytes shapes anchors radii) ≡ shape_words job
-  pub numbers : take (n * 6) (anchors_read bytes shapes anchors radii) ≡ job_numbers job
-  pub radii_are : take n (radii_read bytes shapes anchors radii) ≡ job_radii job
-  pub few_words : m ≤ 32
-  pub few : n ≤ 512
+  pub read : file_read bytes ≡ Ok job
+  pub kind-is : r.kind ≡ job.kind
+  pub words : take r.subpaths (shapes_read bytes shapes anchors radii) ≡ shape_words job
+  pub numbers : take (r.anchors * 6) (anchors_read bytes shapes anchors radii) ≡ job_numbers job
+  pub radii_are : take r.anchors (radii_read bytes shapes anchors radii) ≡ job_radii job
+  pub few_words : r.subpaths ≤ 32
+  pub few : r.anchors ≤ 512
 
 module _ (bytes shapes : List ℕ) (anchors radii : List Float) (wide : length shapes ≡ 32) (long : length anchors ≡ 3072) (each : length radii ≡ 512) where
-  pub refuses : {n place : ℕ} → file_read bytes ≡ refused n place → answer_read bytes shapes anchors radii ≡ answer.Refused n place
+  pub refuses : {e : Refusal} → file_read bytes ≡ Err e → answer_read bytes shapes anchors radii ≡ Err e
   unfolding answer_read outcome roomed answer_of
-  refuses e = rw e
+  refuses h = rw h
 
-  module _ (j : Job) (w : Within j) (e : file_read bytes ≡ accepted j) where
+  module _ (j : Job) (w : Within j) (e : file_read bytes ≡ Ok j) where
     has_room : room_for (length j.subpaths) (length (job_anchors j)) (length shapes) (length anchors) (length radii) ≡ true
     unfolding room_for
     has_room = let p = w.few_subpaths in let q = w.few_anchors in rw (le-leb (length j.subpaths) (length shapes) (omega arith), le-leb (length (job_anchors j) * 6) (length anchors) (omega arith), le-leb (length (job_anchors j)) (length radii) (omega arith))
 
-    outcome-is : outcome bytes shapes anchors radii ≡ accepted j
+    outcome-is : outcome bytes shapes anchors radii ≡ Ok j
     unfolding outcome roomed
     outcome-is = rw (e, has_room)
 
-    pub accepts : answer_read bytes shapes anchors radii ≡ answer.Read j.kind (length j.subpaths) (length (job_anchors j))
+    pub accepts : answer_read bytes shapes anchors radii ≡ Ok (record { kind = j.kind; subpaths = length j.subpaths; anchors = length (job_anchors j) })
     unfolding answer_read answer_of
     accepts = rw outcome-is
 
-    given : Given bytes shapes anchors radii j.kind (length j.subpaths) (length (job_anchors j))
+    given : Given bytes shapes anchors radii (record { kind = j.kind; subpaths = length j.subpaths; anchors = length (job_anchors j) })
     unfolding shapes_read anchors_read radii_read shapes_left anchors_left radii_left
     given =
         let p = w.few_subpaths in
@@ -144,53 +144,41 @@ module _ (bytes shapes : List ℕ) (anchors radii : List Float) (wide : length s
           few = q;
         }
 
-  differ : (n place kind a b : ℕ) → answer.Refused n place ≡ answer.Read kind a b → ⊥
-  differ n place kind a b q = let z : ◌≡◌ {A = ℕ} 0 1 = cc in omega arith
-
   module _ (short : length bytes ≤ 32768) where
-    printed-is : {r : Reading} → file_read bytes ≡ r → read_text r ≡ printed bytes
+    printed-is : {r : Result Job Refusal} → file_read bytes ≡ r → read_text r ≡ printed bytes
     unfolding printed
     printed-is e = rw (le-leb (length bytes) 32768 short, e)
 
-    pub read-refused : (n place : ℕ) → answer_read bytes shapes anchors radii ≡ answer.Refused n place → refused_text n place ≡ printed bytes
+    pub read-refused : (r : Refusal) → answer_read bytes shapes anchors radii ≡ Err r → refused_text (number_of r.reason) r.place ≡ printed bytes
     unfolding read_text
-    read-refused n place a = go (file_read bytes) refl
+    read-refused r a = go (file_read bytes) refl
       where
-        same_text : {c k : ℕ} → answer.Refused c k ≡ answer.Refused n place → refused_text n place ≡ refused_text c k
-        same_text q = cc
+        same_text : {e : Refusal} → ◌≡◌ {A = Result Read Refusal} (Err e) (Err r) → refused_text (number_of r.reason) r.place ≡ refused_text (number_of e.reason) e.place
+        same_text {e} q = let z : e ≡ r = cc in rw z
 
-        go : (r : Reading) → file_read bytes ≡ r → refused_text n place ≡ printed bytes
-        go (refused c k) e = same_text (sym (refuses e) ∙ a) ∙ printed-is e
-        go (accepted j) e = absurd (differ n place _ _ _ (sym a ∙ accepts j (file_sound bytes j e) e))
+        go : (x : Result Job Refusal) → file_read bytes ≡ x → refused_text (number_of r.reason) r.place ≡ printed bytes
+        go (Err e) h = same_text (sym (refuses h) ∙ a) ∙ printed-is h
+        go (Ok j) h = let b = accepts j (file_sound bytes j h) h in let z : ◌≡◌ {A = ℕ} 0 1 = cc in absurd (omega arith)
 
-    pub read-given : (kind m n : ℕ) → answer_read bytes shapes anchors radii ≡ answer.Read kind m n → Given bytes shapes anchors radii kind m n
-    read-given kind m n a = go (file_read bytes) refl
+    pub read-given : (r : Read) → answer_read bytes shapes anchors radii ≡ Ok r → Given bytes shapes anchors radii r
+    read-given r a = go (file_read bytes) refl
       where
-        moved : {k x y : ℕ} → answer.Read k x y ≡ answer.Read kind m n → Given bytes shapes anchors radii k x y → Given bytes shapes anchors radii kind m n
-        moved q g = rw (← kind-same q, ← words_same q, ← count_same q) g
-          where
-            kind-same : {k x y : ℕ} → answer.Read k x y ≡ answer.Read kind m n → k ≡ kind
-            kind-same q = cc
+        moved : {x : Read} → ◌≡◌ {A = Result Read Refusal} (Ok x) (Ok r) → Given bytes shapes anchors radii x → Given bytes shapes anchors radii r
+        moved {x} q g = let z : x ≡ r = cc in subst (Given bytes shapes anchors radii) z g
 
-            words_same : {k x y : ℕ} → answer.Read k x y ≡ answer.Read kind m n → x ≡ m
-            words_same q = cc
-
-            count_same : {k x y : ℕ} → answer.Read k x y ≡ answer.Read kind m n → y ≡ n
-            count_same q = cc
-
-        go : (r : Reading) → file_read bytes ≡ r → Given bytes shapes anchors radii kind m n
-        go (refused c k) e = absurd (differ c k _ _ _ (sym (refuses e) ∙ a))
-        go (accepted j) e = let w = file_sound bytes j e in moved (sym (accepts j w e) ∙ a) (given j w e)
+        go : (x : Result Job Refusal) → file_read bytes ≡ x → Given bytes shapes anchors radii r
+        go (Err e) h = let b = refuses h in let z : ◌≡◌ {A = ℕ} 0 1 = cc in absurd (omega arith)
+        go (Ok j) h = let w = file_sound bytes j h in moved (sym (accepts j w h) ∙ a) (given j w h)
 
     -- and its line is what is printed
-    pub given-text : (kind m n : ℕ) (g : Given bytes shapes anchors radii kind m n)
-        → drawing_text (take m (shapes_read bytes shapes anchors radii)) (take (n * 6) (anchors_read bytes shapes anchors radii)) (take n (radii_read bytes shapes anchors radii)) kind ≡ printed bytes
+    pub given-text : (r : Read) (g : Given bytes shapes anchors radii r)
+        → drawing_text (take r.subpaths (shapes_read bytes shapes anchors radii)) (take (r.anchors * 6) (anchors_read bytes shapes anchors radii)) (take r.anchors (radii_read bytes shapes anchors radii)) r.kind ≡ printed bytes
     unfolding read_text
-    given-text kind m n g = rw (g.words, g.numbers, g.radii_are, g.kind-is) (printed-is g.read)
+    given-text r g = rw (g.words, g.numbers, g.radii_are, g.kind-is) (printed-is g.read)
 
-    pub given-drawn : (kind m n : ℕ) (g : Given bytes shapes anchors radii kind m n)
-        → Drawn (take m (shapes_read bytes shapes anchors radii)) (take (n * 6) (anchors_read bytes shapes anchors radii)) (take n (radii_read bytes shapes anchors radii)) kind
-    given-drawn kind m n g = rw (g.words, g.numbers, g.radii_are, g.kind-is) (job-drawn g.job g.within)
+    pub given-drawn : (r : Read) (g : Given bytes shapes anchors radii r)
+        → Drawn (take r.subpaths (shapes_read bytes shapes anchors radii)) (take (r.anchors * 6) (anchors_read bytes shapes anchors radii)) (take r.anchors (radii_read bytes shapes anchors radii)) r.kind
+    given-drawn r g = rw (g.words, g.numbers, g.radii_are, g.kind-is) (job-drawn g.job g.within)
 
 pub long_text : (bytes : List ℕ) → 32768 < length bytes → refused_text 1 8192 ≡ printed bytes
 unfolding printed

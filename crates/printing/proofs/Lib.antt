@@ -1,3 +1,4 @@
 pub mod Lines
 pub mod Cuts
 pub mod Jobs
+pub mod Rooms

@@ -1,17 +1,19 @@
 -- What `patch` prints for a job, less the newline (document 01, 'Job file and program'). Assumes nothing.
-use Rattle.std.specs.Prelude.{ℕ, cond, List, leb, length, Float}
+use Rattle.std.specs.Prelude.{ℕ, cond, List, leb, length, Float, Result, Ok, Err}
 use Rattle.views.specs.View.{tabulate}
+use Rattle.refusal.specs.declared.Refusal.{Refusal}
+use Rattle.refusal.specs.Reasons.{number_of}
 use Rattle.refusal.specs.Order.{Test, passes, fails}
 use Rattle.path.specs.Shape.{total}
 use Rattle.path.specs.Flat.{nth}
 use Rattle.call.specs.Tests.{places}
 use Rattle.svg.specs.Path.{text_of}
-use Rattle.cut_calls.specs.CornerKinds.{kind_of}
+use Rattle.corner.specs.Kinds.{kind_of}
 use Rattle.cut_corners.specs.Calls.{cut_outline, cut_words}
 use Rattle.cache.specs.Cache.{cached_in}
 use Rattle.cache.specs.Calls.{cut_places}
+use Rattle.job.specs.Grammar.{Job}
 use Rattle.job.specs.Content.{shape_words, job_numbers, job_radii}
-use Rattle.job.specs.Reading.{Reading, refused, accepted}
 use Rattle.job_calls.specs.Call.{file_read}
 use Rattle.printing.specs.Refused.{refused_text}
 
@@ -33,9 +35,9 @@ drawing_text shapes anchors radii kind =
     unless_bad (places (cached_in (cut_places shapes anchors radii (kind_of kind))) (total shapes) passes) (fitted (cut_text shapes anchors radii kind))
 
 -- of what is read of a file
-unfoldable pub read_text : Reading → List ℕ
-read_text (refused n place) = refused_text n place
-read_text (accepted j) = drawing_text (shape_words j) (job_numbers j) (job_radii j) j.kind
+unfoldable pub read_text : Result Job Refusal → List ℕ
+read_text (Err e) = refused_text (number_of e.reason) e.place
+read_text (Ok j) = drawing_text (shape_words j) (job_numbers j) (job_radii j) j.kind
 
 -- of a job file of at most 32,768 bytes
 unfoldable pub printed : List ℕ → List ℕ

@@ -5,7 +5,6 @@ ghost use Rattle.printing.specs.Printed.{printed};
 
 use crate::drawing_line::put_drawing;
 use crate::refused::put_refused;
-use job_calls::Job;
 
 // Puts what `patch` prints for a job, less the newline. The answer is how many bytes.
 pub fn print(bytes: &[u8], out: &mut [u8; 65536]) -> usize
@@ -17,14 +16,13 @@ pub fn print(bytes: &[u8], out: &mut [u8; 65536]) -> usize
     let mut shapes = [0u32; 32];
     let mut anchors = [0.0f64; 3072];
     let mut radii = [0.0f64; 512];
-    let read = job_calls::read(bytes, &mut shapes, &mut anchors, &mut radii);
-    match read {
-        Job::Refused(number, place) => put_refused(out, number, place),
-        Job::Read(kind, m, n) => put_drawing(
-            &shapes[..m],
-            &anchors[..n * 6],
-            &radii[..n],
-            kind,
+    match job_calls::read(bytes, &mut shapes, &mut anchors, &mut radii) {
+        Err(refusal) => put_refused(out, u32::from(refusal.reason), refusal.place),
+        Ok(read) => put_drawing(
+            &shapes[..read.subpaths],
+            &anchors[..read.anchors * 6],
+            &radii[..read.anchors],
+            read.kind,
             out,
         ),
     }

@@ -21,7 +21,7 @@ use Rattle.cut.specs.declared.places.Place.{Place}
 use Rattle.cut.specs.Subpath.{view_of}
 use Rattle.cut.specs.Places.{place_numbers}
 use Rattle.cut.specs.Rows.{flag_of}
-use Rattle.cut_calls.specs.CornerKinds.{kind_of}
+use Rattle.corner.specs.Kinds.{kind_of}
 use Rattle.cut_calls.specs.PlainCut.{sub_at, view_at}
 use Rattle.cache.specs.Cache.{place_of_path, cached_numbers, cached_flags, cached_in}
 use Rattle.cache.specs.Tests.{cache_fits}

@@ -22,9 +22,11 @@ use Rattle.cache.proofs.Accepted.{Drawn}
 use Rattle.cache.proofs.Fitting.{fits-is}
 use Rattle.job.specs.Grammar.{Job, Within}
 use Rattle.job.specs.Content.{shape_words, job_numbers, job_radii}
-use Rattle.job.specs.Reading.{Reading, refused, accepted}
+use Rattle.std.proofs.Common.{Result, Ok, Err}
+use Rattle.refusal.specs.declared.Refusal.{Refusal}
+use Rattle.refusal.specs.Reasons.{number_of}
 use Rattle.job_calls.specs.Call.{file_read, outcome, anchors_left, radii_left, answer_read, shapes_read, anchors_read, radii_read}
-use Rattle.job_calls.specs.declared.call.Job.TheVariants as answer
+use Rattle.job_calls.specs.declared.result.Read.{Read}
 use Rattle.job.proofs.Numbers.{job-numbers_in, job_radii_in}
 use Rattle.session.specs.Drawing.{drawn}
 use Rattle.session.specs.Edits.{Call}
@@ -112,7 +114,7 @@ unfolding job_report
 report_long known cs bytes h = rw (lt-leb (length bytes) 32768 h)
 
 module _ (known : Bool) (cs : List Call) (bytes : List ℕ) (short : length bytes ≤ 32768) where
-  pub report-read : {r : Reading} → file_read bytes ≡ r → read_report known cs r ≡ job_report known cs bytes
+  pub report-read : {r : Result Job Refusal} → file_read bytes ≡ r → read_report known cs r ≡ job_report known cs bytes
   unfolding job_report
   report-read e = rw (le-leb (length bytes) 32768 short, e)
 
@@ -122,41 +124,40 @@ module _ (bytes shapes : List ℕ) (anchors radii : List Float) (wide : length s
   unfolding anchors_read anchors_left
   numbers-left = go (outcome bytes shapes anchors radii)
     where
-      go : (r : Reading) → length (anchors_left r anchors) ≡ 3072
-      go (refused n place) = long
-      go (accepted j) = length-overwrite _ _ anchors ∙ long
+      go : (r : Result Job Refusal) → length (anchors_left r anchors) ≡ 3072
+      go (Err e) = long
+      go (Ok j) = length-overwrite _ _ anchors ∙ long
 
   radii_left_lem : length (radii_read bytes shapes anchors radii) ≡ 512
   unfolding radii_read radii_left
   radii_left_lem = go (outcome bytes shapes anchors radii)
     where
-      go : (r : Reading) → length (radii_left r radii) ≡ 512
-      go (refused n place) = each
-      go (accepted j) = length-overwrite _ _ radii ∙ each
+      go : (r : Result Job Refusal) → length (radii_left r radii) ≡ 512
+      go (Err e) = each
+      go (Ok j) = length-overwrite _ _ radii ∙ each
 
   module _ (known : Bool) (cs : List Call) (short : length bytes ≤ 32768) where
-    pub read_refuses : (n place : ℕ) → answer_read bytes shapes anchors radii ≡ answer.Refused n place → refusing n place ≡ job_report known cs bytes
+    pub read_refuses : (r : Refusal) → answer_read bytes shapes anchors radii ≡ Err r → refusing (number_of r.reason) r.place ≡ job_report known cs bytes
     unfolding read_report
-    read_refuses n place a = go (file_read bytes) refl
+    read_refuses r a = go (file_read bytes) refl
       where
-        differ : {kind x y : ℕ} → answer.Refused n place ≡ answer.Read kind x y → ⊥
-        differ q = let z : ◌≡◌ {A = ℕ} 0 1 = cc in omega arith
+        same_refusal : {e : Refusal} → ◌≡◌ {A = Result Read Refusal} (Err e) (Err r) → refusing (number_of r.reason) r.place ≡ refusing (number_of e.reason) e.place
+        same_refusal {e} q = let z : e ≡ r = cc in rw z
 
-        same_refusal : {c k : ℕ} → answer.Refused c k ≡ answer.Refused n place → refusing n place ≡ refusing c k
-        same_refusal q = cc
-
-        go : (r : Reading) → file_read bytes ≡ r → refusing n place ≡ job_report known cs bytes
-        go (refused c k) e = same_refusal (sym (refuses bytes shapes anchors radii wide long each e) ∙ a) ∙ report-read known cs bytes short e
-        go (accepted j) e = absurd (differ (sym a ∙ accepts bytes shapes anchors radii wide long each j (file_sound bytes j e) e))
+        go : (x : Result Job Refusal) → file_read bytes ≡ x → refusing (number_of r.reason) r.place ≡ job_report known cs bytes
+        go (Err e) h = same_refusal (sym (refuses bytes shapes anchors radii wide long each h) ∙ a) ∙ report-read known cs bytes short h
+        go (Ok j) h =
+            let b = accepts bytes shapes anchors radii wide long each j (file_sound bytes j h) h in
+            let z : ◌≡◌ {A = ℕ} 0 1 = cc in absurd (omega arith)
 
     -- in lists xs, ns and rs that hold what is read
-    module _ (kind m n : ℕ) (g : Given bytes shapes anchors radii kind m n) (xs : List ℕ) (ns rs : List Float) (x : xs ≡ shapes_read bytes shapes anchors radii)
+    module _ (r : Read) (g : Given bytes shapes anchors radii r) (xs : List ℕ) (ns rs : List Float) (x : xs ≡ shapes_read bytes shapes anchors radii)
         (y : ns ≡ anchors_read bytes shapes anchors radii) (z : rs ≡ radii_read bytes shapes anchors radii) where
-      pub read-drawn : Drawn (take m xs) ns rs kind
-      read-drawn = rw (x, y, z, g.words, g.kind-is) (lists_drawn g.job g.within n g.few _ _ numbers-left radii_left_lem g.numbers g.radii_are)
+      pub read-drawn : Drawn (take r.subpaths xs) ns rs r.kind
+      read-drawn = rw (x, y, z, g.words, g.kind-is) (lists_drawn g.job g.within r.anchors g.few _ _ numbers-left radii_left_lem g.numbers g.radii_are)
 
-      pub read-report : drawing_report known cs (drawing (take m xs) ns rs kind) ≡ job_report known cs bytes
+      pub read-report : drawing_report known cs (drawing (take r.subpaths xs) ns rs r.kind) ≡ job_report known cs bytes
       unfolding read_report
       read-report =
-          rw (x, y, z, g.words, g.kind-is) (lists_report g.job g.within n g.few _ _ numbers-left radii_left_lem g.numbers g.radii_are known cs)
+          rw (x, y, z, g.words, g.kind-is) (lists_report g.job g.within r.anchors g.few _ _ numbers-left radii_left_lem g.numbers g.radii_are known cs)
           ∙ report-read known cs bytes short g.read

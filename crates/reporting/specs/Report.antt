@@ -1,7 +1,9 @@
 -- What `edits` prints (docs/EDITS.md): a line for each call, then the text of the drawing as the calls leave it; or one refusal. Of the cache nothing is said:
 -- all follows from the job and the calls. Assumes nothing.
-use Rattle.std.specs.Prelude.{ℕ, ◌+◌, ◌*◌, Bool, cond, List, [], ◌∷◌, ◌++◌, leb, length, drop, Float}
+use Rattle.std.specs.Prelude.{ℕ, ◌+◌, ◌*◌, Bool, cond, List, [], ◌∷◌, ◌++◌, leb, length, drop, Float, Result, Ok, Err}
 use Rattle.views.specs.View.{entry}
+use Rattle.refusal.specs.declared.Refusal.{Refusal}
+use Rattle.refusal.specs.Reasons.{number_of}
 use Rattle.refusal.specs.Order.{Test, passes, fails}
 use Rattle.path.specs.Shape.{total}
 use Rattle.path.specs.Flat.{anchor_at}
@@ -9,7 +11,6 @@ use Rattle.call.specs.Tests.{places}
 use Rattle.cache.specs.Cache.{cached_in}
 use Rattle.job.specs.Grammar.{Job}
 use Rattle.job.specs.Content.{shape_words, job_numbers, job_radii}
-use Rattle.job.specs.Reading.{Reading, refused, accepted}
 use Rattle.job_calls.specs.Call.{file_read}
 use Rattle.replay.specs.Encoding.{calls_of, calls_known}
 use Rattle.session.specs.declared.answers.Edited.{Edited}
@@ -74,9 +75,9 @@ drawing shapes anchors radii kind = record { shapes = shapes; kind = kind; ancho
 abbrev pub job_drawing : Job → Drawing
 job_drawing j = drawing (shape_words j) (job_numbers j) (job_radii j) j.kind
 
-unfoldable pub read_report : Bool → List Call → Reading → Report
-read_report known calls (refused n place) = refusing n place
-read_report known calls (accepted j) = drawing_report known calls (job_drawing j)
+unfoldable pub read_report : Bool → List Call → Result Job Refusal → Report
+read_report known calls (Err e) = refusing (number_of e.reason) e.place
+read_report known calls (Ok j) = drawing_report known calls (job_drawing j)
 
 -- a job file of at most 32,768 bytes
 unfoldable pub job_report : Bool → List Call → List ℕ → Report

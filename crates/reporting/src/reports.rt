@@ -9,7 +9,6 @@ ghost use Rattle.reporting.specs.Report.{drawing, drawing_report, job_report, re
 use crate::outlines::put_outline;
 use call_lines::put_calls;
 use call_list::{Calls, read_calls};
-use job_calls::Job;
 use printing::put_refused;
 use replay::Replayed;
 
@@ -98,14 +97,13 @@ fn report_job(
     let mut shapes = [0u32; 32];
     let mut anchors = [0.0f64; 3072];
     let mut radii = [0.0f64; 512];
-    let read = job_calls::read(bytes, &mut shapes, &mut anchors, &mut radii);
-    match read {
-        Job::Refused(number, place) => refuse(out, number, place),
-        Job::Read(kind, m, n) => report_drawing(
-            &mut shapes[..m],
+    match job_calls::read(bytes, &mut shapes, &mut anchors, &mut radii) {
+        Err(refusal) => refuse(out, u32::from(refusal.reason), refusal.place),
+        Ok(read) => report_drawing(
+            &mut shapes[..read.subpaths],
             &mut anchors,
             &mut radii,
-            kind,
+            read.kind,
             codes,
             values,
             lines,

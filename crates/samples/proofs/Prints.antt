@@ -20,14 +20,14 @@ use Rattle.path.specs.Anchor.{without_handles}
 use Rattle.path.specs.Flat.{numbers, nth}
 use Rattle.path.specs.Shape.{word_of, sub_of}
 use Rattle.call.specs.Tests.{places}
-use Rattle.corner.specs.declared.cut.CornerKind.{CornerKind}
-use Rattle.corner.specs.declared.cut.CornerKind.TheVariants.{Round, Inverted, Chamfer}
+use Rattle.corner.specs.declared.kind.CornerKind.{CornerKind}
+use Rattle.corner.specs.declared.kind.CornerKind.TheVariants.{Round, Inverted, Chamfer}
 use Rattle.cut.specs.declared.places.Place.{Place}
 use Rattle.cut.specs.Subpath.{view_of}
 use Rattle.cut.specs.Places.{place_at, place_numbers}
 use Rattle.cut.specs.Outline.{joined, anchors_at, held_back, assembled, cut_corners}
-use Rattle.cut_calls.specs.declared.kinds.Kind.TheVariants.{Known}
-use Rattle.cut_calls.specs.CornerKinds.{kind_of}
+use Rattle.std.proofs.Common.{Some, Ok}
+use Rattle.corner.specs.Kinds.{kind_of}
 use Rattle.cut_calls.specs.PlainCut.{sub_at, view_at, cut_up_to, cut_shape}
 use Rattle.cut_corners.specs.Calls.{cut_outline, cut_words}
 use Rattle.cache.specs.Cache.{place_of_path, cached_in}
@@ -39,7 +39,7 @@ use Rattle.job.specs.Words.{words_of}
 use Rattle.job.specs.Number.{number}
 use Rattle.job.specs.Grammar.{Anchor, Job, anchors_of}
 use Rattle.job.specs.Content.{pair, shape_word, numbers_of, radius_of, shape_words, job_numbers, job_radii}
-use Rattle.job.specs.Reading.{reading, accepted}
+use Rattle.job.specs.Reading.{reading}
 use Rattle.job_calls.specs.Call.{file_read}
 use Rattle.printing.specs.Printed.{fitted, unless_bad, cut_text, drawing_text, read_text, printed}
 use Rattle.samples.specs.Written.{ascii, bytes_of}
@@ -75,7 +75,7 @@ module _ (head : ℕ) where
   unfolding anchors_of radius_of number of_bits div of_int round neg
   radii_are = refl
 
-  given : file_read (square_job head) ≡ accepted (square head) → printed (square_job head) ≡ drawing_text shapes anchors radii head
+  given : file_read (square_job head) ≡ Ok (square head) → printed (square_job head) ≡ drawing_text shapes anchors radii head
   unfolding printed read_text bytes_of
   given e = ap read_text e ∙ rw (shapes_are, numbers_are, radii_are)
 
@@ -102,7 +102,7 @@ four_pass good e₀ e₁ e₂ e₃ = rw (e₀, e₁, e₂, e₃)
 abbrev within : Place → Bool
 within q = cached_in (λ i. q) 0
 
-module _ (head : ℕ) (k : CornerKind) (known : kind_of head ≡ Known k) (a b : P) (first : place_at (view k) 0 ≡ cut_place a b) where
+module _ (head : ℕ) (k : CornerKind) (known : kind_of head ≡ Some k) (a b : P) (first : place_at (view k) 0 ≡ cut_place a b) where
   outlined : cut_corners (view k) ≡ outline a b
   unfolding cut_corners view_at view_of sub_at
   outlined = put_together a b (place_at (view k)) first (place_1 k) (place_2 k) (place_3 k)
@@ -122,7 +122,7 @@ module _ (head : ℕ) (k : CornerKind) (known : kind_of head ≡ Known k) (a b :
       (ap within (place_3 k)))
 
   -- the text of that, which is short enough
-  prints : file_read (square_job head) ≡ accepted (square head) → within (cut_place a b) ≡ true → (text : List ℕ) → text_of (0x8000_0005 ∷ []) (nth (outline a b)) ≡ text
+  prints : file_read (square_job head) ≡ Ok (square head) → within (cut_place a b) ≡ true → (text : List ℕ) → text_of (0x8000_0005 ∷ []) (nth (outline a b)) ≡ text
       → leb (length text) 65536 ≡ true → printed (square_job head) ≡ text
   unfolding drawing_text unless_bad fitted
   prints e w text t l = given head e ∙ rw (none_bad w, cut-text, t, l)

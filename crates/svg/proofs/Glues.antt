@@ -2,15 +2,16 @@
 use mathlib.Core.Path.{◌≡◌, refl, sym, ap, ◌∙◌}
 use mathlib.Core.Bool.{cond}
 use mathlib.Core.List.{List, [], ◌∷◌, ◌++◌, append_assoc, append-nil}
-use Prim.Native.Nat.{ℕ, zero, suc, ◌+◌, ◌<◌}
+use Prim.Native.Nat.{ℕ, zero, suc, ◌+◌, ◌^◌, ◌<◌}
 use native.Mathlib.Omega.{arith}
 use lib.Dec.{eqb, eqb-suc-zero}
 use lib.ListN.{length, length-append}
 use lib.IntN.{ℤ}
 use Rattle.geom.specs.declared.point.P.{P}
 use Rattle.decimal.specs.Text.{float_text}
-use Rattle.decimal.specs.Put.{Put}
-use Rattle.decimal.proofs.Puts.{then, nothing}
+use Rattle.decimal.specs.declared.text.Text.{Text}
+use Rattle.decimal.specs.Put.{Adds, counted}
+use Rattle.decimal.proofs.Puts.{then, no_text}
 use Rattle.svg_grammar.specs.Grammar.{Command, move, line, curve, close}
 use Rattle.svg_grammar.specs.Text.{pair_text, command_text, after_text, commands_text}
 use Rattle.svg.specs.Path.{move_to, line_to, curve_to}
@@ -38,9 +39,16 @@ pub text-curve : (a b p : P) → command_text (curve_to a b p) ≡ 67 ∷ (point
 unfolding command_text curve_to pair_text float_text
 text-curve a b p = refl
 
+-- a letter and three points, one piece put after another
+pub three_points : (l a b p : List ℕ) → ((((l ++ a) ++ 32 ∷ []) ++ b) ++ 32 ∷ []) ++ p ≡ l ++ (a ++ 32 ∷ b ++ 32 ∷ p)
+three_points l a b p = simp append_assoc
+
 pub text_close : command_text close ≡ 90 ∷ []
 unfolding command_text
 text_close = refl
+
+pub glue_close : (at : ℕ) → glue at (close ∷ []) ≡ cond (eqb at 0) (90 ∷ []) (32 ∷ 90 ∷ [])
+glue_close at = glue_one at close 90 [] text_close ∙ append-nil (cond (eqb at 0) (90 ∷ []) (32 ∷ 90 ∷ []))
 
 -- ---- one list of commands after another
 after-append : (cs ds : List (Command ℤ)) → after_text cs ++ after_text ds ≡ after_text (cs ++ ds)
@@ -60,19 +68,22 @@ unfolding glue
 later zero ds h = absurd (omega arith)
 later (suc k) ds h = refl
 
-glue-append : (at to : ℕ) (cs ds : List (Command ℤ)) → to ≡ at + length (glue at cs) → glue at cs ++ glue to ds ≡ glue at (cs ++ ds)
+glue-append : (at to : ℕ) (cs ds : List (Command ℤ)) → to ≡ counted (at + length (glue at cs)) → glue at cs ++ glue to ds ≡ glue at (cs ++ ds)
 unfolding glue commands_text
-glue-append zero to [] ds e = ap (λ k. glue k ds) e
+glue-append zero to [] ds e = let z : to ≡ 0 = omega arith in ap (λ k. glue k ds) z
 glue-append zero to (c ∷ cs) ds e =
     ap (λ t. command_text c ++ after_text cs ++ t) (later to ds (omega (arith, some_text c, length-append (command_text c) (after_text cs))))
     ∙ append_assoc (command_text c) (after_text cs) (after_text ds)
     ∙ ap (λ t. command_text c ++ t) (after-append cs ds)
 glue-append (suc k) to cs ds e = ap (λ t. after_text cs ++ t) (later to ds (omega arith)) ∙ after-append cs ds
 
-pub glued : {l m n : List ℕ} {at to next : ℕ} (cs ds : List (Command ℤ)) → Put l at (glue at cs) m to → Put m to (glue to ds) n next → Put l at (glue at (cs ++ ds)) n next
-glued {l} {m} {n} {at} {to} {next} cs ds p q = rw (sym (glue-append at to cs ds p.end)) (then p q)
+pub glued : {t m n : Text} (cs ds : List (Command ℤ)) → length t.out.now < 2 ^ 64 → Adds t (glue t.at cs) m → Adds m (glue m.at ds) n → Adds t (glue t.at (cs ++ ds)) n
+glued {t} {m} {n} cs ds h p q = rw (sym (glue-append t.at m.at cs ds p.end)) (then h p q)
 
-pub no_commands : (l : List ℕ) (at : ℕ) → Put l at (glue at []) l at
+glue-none : (at : ℕ) → glue at [] ≡ []
 unfolding glue commands_text after_text
-no_commands l zero = nothing l zero
-no_commands l (suc k) = nothing l (suc k)
+glue-none zero = refl
+glue-none (suc k) = refl
+
+pub no_commands : {t : Text} → t.at < 2 ^ 64 → Adds t (glue t.at []) t
+no_commands {t} h = rw (glue-none t.at) (no_text h)

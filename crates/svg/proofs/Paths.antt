@@ -15,17 +15,8 @@ use Rattle.path.specs.declared.anchor.Anchor.{Anchor}
 use Rattle.path.specs.Shape.{count_of, closed_of, total, word_at, start}
 use Rattle.svg_grammar.specs.Grammar.{Command, close, begins}
 use Rattle.svg_grammar.specs.ReadsAs.{ReadsAs}
-use Rattle.svg.specs.Path.{move_to, line_to, is_straight, bent, drawn, segments, closing, subpath, commands_from, commands_of, text_of}
+use Rattle.svg.specs.Path.{move_to, is_straight, bent, drawn, segments, closing, subpath, commands_from, commands_of, text_of}
 use Rattle.svg_grammar.proofs.Parses.{reads_back}
-
--- ---- a segment
-pub drawn-line : (a b : Anchor) → is_straight a b ≡ true → drawn a b ≡ line_to b.p
-unfolding drawn
-drawn-line a b e = rw e
-
-pub drawn-bent : (a b : Anchor) → is_straight a b ≡ false → drawn a b ≡ bent a b
-unfolding drawn
-drawn-bent a b e = rw e
 
 module _ (f : ℕ → Anchor) where
   -- ---- a subpath

@@ -1,73 +1,71 @@
-// The commands of path data, put into a lent list at `at`. A blank stands before each but the first of the text.
-ghost use Rattle.std.specs.Prelude.{cond, [], ◌∷◌, ◌++◌, ◌+◌, ◌^◌, ◌≤◌, ◌<◌, eqb};
+// The commands of path data, put at the end of a text. A blank stands before each but the first of the text.
+ghost use Rattle.std.specs.Prelude.{cond, [], ◌∷◌, ◌++◌, ◌+◌, ◌≤◌, eqb};
 ghost use Rattle.decimal.specs.Text.{float_text};
-ghost use Rattle.decimal.specs.Put.{Put};
+ghost use Rattle.decimal.specs.Put.{Adds};
 ghost use Rattle.svg_grammar.specs.Grammar.{close};
 ghost use Rattle.svg.specs.Path.{move_to, line_to, curve_to};
 ghost use Rattle.svg.specs.Pieces.{glue, PointIn};
 
-use decimal::{put, write_num};
+use decimal::Text;
 use geom::P;
 
 // Puts a letter, after a blank where something stands before it.
-fn put_letter(out: &mut [u8], at: usize, letter: u8) -> usize
-    requires { at + 2 < 2 ^ 64 }
-    ensures text { Put out.old at (cond (eqb at 0) (letter ∷ []) (32 ∷ letter ∷ [])) out.new result }
-    ensures room { result ≤ at + 2 }
+fn put_letter(text: &mut Text<'_>, letter: u8)
+    ensures text { Adds text.old (cond (eqb text.old.at 0) (letter ∷ []) (32 ∷ letter ∷ [])) text.new }
+    ensures room { text.new.at ≤ text.old.at + 2 }
 {
-    if at == 0 {
-        return put(out, at, letter);
+    if !text.is_empty() {
+        text.put(b' ');
     }
-    let to = put(out, at, 32);
-    put(out, to, letter)
+    text.put(letter);
 }
 
 // Puts a point's two numbers.
-fn put_point(out: &mut [u8], at: usize, p: P) -> usize
-    requires { (PointIn p) × (at + 23 < 2 ^ 64) }
-    ensures text { Put out.old at (float_text p.x ++ 32 ∷ float_text p.y) out.new result }
-    ensures room { result ≤ at + 23 }
+fn put_point(text: &mut Text<'_>, p: P)
+    requires { PointIn p }
+    ensures text { Adds text.old (float_text p.x ++ 32 ∷ float_text p.y) text.new }
+    ensures room { text.new.at ≤ text.old.at + 23 }
 {
-    let to = write_num(out, at, p.x);
-    let next = put(out, to, 32);
-    write_num(out, next, p.y)
+    text.write_num(p.x);
+    text.put(b' ');
+    text.write_num(p.y);
 }
 
-pub fn put_move(out: &mut [u8], at: usize, p: P) -> usize
-    requires { (PointIn p) × (at + 25 < 2 ^ 64) }
-    ensures text { Put out.old at (glue at (move_to p ∷ [])) out.new result }
-    ensures room { result ≤ at + 25 }
+pub fn put_move(text: &mut Text<'_>, p: P)
+    requires { PointIn p }
+    ensures text { Adds text.old (glue text.old.at (move_to p ∷ [])) text.new }
+    ensures room { text.new.at ≤ text.old.at + 25 }
 {
-    let to = put_letter(out, at, 77);
-    put_point(out, to, p)
+    put_letter(text, b'M');
+    put_point(text, p);
 }
 
-pub fn put_line(out: &mut [u8], at: usize, p: P) -> usize
-    requires { (PointIn p) × (at + 25 < 2 ^ 64) }
-    ensures text { Put out.old at (glue at (line_to p ∷ [])) out.new result }
-    ensures room { result ≤ at + 25 }
+pub fn put_line(text: &mut Text<'_>, p: P)
+    requires { PointIn p }
+    ensures text { Adds text.old (glue text.old.at (line_to p ∷ [])) text.new }
+    ensures room { text.new.at ≤ text.old.at + 25 }
 {
-    let to = put_letter(out, at, 76);
-    put_point(out, to, p)
+    put_letter(text, b'L');
+    put_point(text, p);
 }
 
-pub fn put_curve(out: &mut [u8], at: usize, a: P, b: P, p: P) -> usize
-    requires { (PointIn a) × (PointIn b) × (PointIn p) × (at + 73 < 2 ^ 64) }
-    ensures text { Put out.old at (glue at (curve_to a b p ∷ [])) out.new result }
-    ensures room { result ≤ at + 73 }
+pub fn put_curve(text: &mut Text<'_>, a: P, b: P, p: P)
+    requires { (PointIn a) × (PointIn b) × (PointIn p) }
+    ensures text { Adds text.old (glue text.old.at (curve_to a b p ∷ [])) text.new }
+    ensures room { text.new.at ≤ text.old.at + 73 }
 {
-    let to = put_letter(out, at, 67);
-    let first = put_point(out, to, a);
-    let blank = put(out, first, 32);
-    let second = put_point(out, blank, b);
-    let last = put(out, second, 32);
-    put_point(out, last, p)
+    put_letter(text, b'C');
+    put_point(text, a);
+    text.put(b' ');
+    put_point(text, b);
+    text.put(b' ');
+    put_point(text, p);
 }
 
-pub fn put_close(out: &mut [u8], at: usize) -> usize
-    requires { at + 2 < 2 ^ 64 }
-    ensures text { Put out.old at (glue at (close ∷ [])) out.new result }
-    ensures room { result ≤ at + 2 }
+#[tactic(auto, using(crate::proofs::Glues::glue_close))]
+pub fn put_close(text: &mut Text<'_>)
+    ensures text { Adds text.old (glue text.old.at (close ∷ [])) text.new }
+    ensures room { text.new.at ≤ text.old.at + 2 }
 {
-    put_letter(out, at, 90)
+    put_letter(text, b'Z');
 }

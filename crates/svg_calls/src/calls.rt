@@ -1,5 +1,8 @@
 // The calls: document 01's tests in their order, then the text.
-ghost use Rattle.std.specs.Prelude.{◌≡◌, ℕ, ◌≤◌, ◌<◌, length};
+ghost use Rattle.std.specs.Prelude.{◌≡◌, true, ℕ, ◌≤◌, ◌<◌, length};
+ghost use Rattle.real.specs.Limit.{in_limit};
+ghost use Rattle.decimal.specs.Put.{Put};
+ghost use Rattle.decimal.specs.Text.{float_text};
 ghost use Rattle.path.specs.Shape.{total};
 ghost use Rattle.path.specs.Flat.{anchor_at};
 ghost use Rattle.svg.specs.Path.{text_of};
@@ -7,6 +10,7 @@ ghost use Rattle.svg.specs.Pieces.{Placed};
 ghost use Rattle.svg_calls.specs.Call.{to_svg_d_answer, to_svg_d_left, write_num_answer, write_num_left, handed_answer, handed_left};
 
 use call::Opened;
+use decimal::Text;
 use svg::put_path;
 
 // A refusal's number and place, or the text's length.
@@ -58,10 +62,20 @@ pub fn write_num(x: f64, out: &mut [u8]) -> Answer
         return Answer::Refused(refusal::ARGUMENTS, 0);
     }
     let mut none = [0u8; 1];
-    let bytes = decimal::write_num(&mut none, 0, x);
+    let bytes = put_number(x, &mut none);
     if out.len() < bytes {
         return Answer::Refused(refusal::OUTPUT, 0);
     }
-    decimal::write_num(out, 0, x);
+    put_number(x, out);
     Answer::Accepted(bytes)
+}
+
+// Puts a number's text from a list's start.
+fn put_number(x: f64, out: &mut [u8]) -> usize
+    requires { in_limit x ≡ true }
+    ensures { Put out.old 0 (float_text x) out.new result }
+{
+    let mut text = Text::new(out);
+    text.write_num(x);
+    text.len()
 }
