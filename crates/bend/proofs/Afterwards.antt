@@ -11,6 +11,8 @@ use lib.Ieee.{Float, nan}
 use borrow.Author.Tests.{ltb-true, ltb-false}
 use Rattle.views.specs.View.{entry, tabulate}
 use Rattle.views.proofs.Laws.{same, length-tabulate, at_tabulate, as_overwrite}
+use Rattle.refusal.specs.Reasons.{refusal_at}
+use Rattle.refusal.specs.declared.Reason.TheVariants.{Made}
 use Rattle.refusal.specs.Order.{passes, judge, accepted, refused}
 use Rattle.path.specs.declared.anchor.Anchor.{Anchor}
 use Rattle.path.specs.Flat.{anchor_at, numbers, anchor_numbers, put_anchor, nth, listed}
@@ -30,7 +32,7 @@ module _ (n : ℕ) (f : ℕ → Anchor) where
   unfolding outline_in nth
   made-within k l = ap anchor_good (at_tabulate _ n f k l)
 
-  pub made_bad : (k : ℕ) → k < n → anchor_good (f k) ≡ false → ((q : ℕ) → q < k → anchor_good (f q) ≡ true) → last_verdict (tabulate n f) ≡ refused 9 k
+  pub made_bad : (k : ℕ) → k < n → anchor_good (f k) ≡ false → ((q : ℕ) → q < k → anchor_good (f q) ≡ true) → last_verdict (tabulate n f) ≡ refused (refusal_at Made k)
   unfolding last_verdict outline_limit judge
   made_bad k l e below =
       rw (length-tabulate n f, places_fail (outline_in (tabulate n f)) n passes k (record { place = l; bad = made-within k l ∙ e; below = λ q h. made-within q (omega arith) ∙ below q h }))
@@ -65,7 +67,7 @@ module _ (xs : List Float) (n : ℕ) (f : ℕ → Anchor) (good : GoodBelow (anc
 
   -- one anchor anew
   module _ (k : ℕ) (a : Anchor) (inside : k < n) (new : f k ≡ a) (others : (q : ℕ) → (q ≡ k → ⊥) → f q ≡ anchor_at xs q) where
-    pub one_bad : anchor_good a ≡ false → last_verdict (tabulate n f) ≡ refused 9 k
+    pub one_bad : anchor_good a ≡ false → last_verdict (tabulate n f) ≡ refused (refusal_at Made k)
     one_bad e = made_bad n f k inside (ap anchor_good new ∙ e) (λ q l. kept q (omega arith) (others q (λ p. omega arith)))
 
     pub one_good : anchor_good a ≡ true → last_verdict (tabulate n f) ≡ accepted
@@ -87,29 +89,29 @@ module _ (xs : List Float) (n : ℕ) (f : ℕ → Anchor) (good : GoodBelow (anc
         (λ ni. ⊎_elim (λ e. ap (λ z. anchor_good (f z)) e ∙ ap anchor_good new-j ∙ wb (omega arith)) (λ nj. kept q h (others q ni nj)) (same q j))
         (same q i)
 
-    i_bad : anchor_good a ≡ false → (j < i → anchor_good b ≡ true) → last_verdict (tabulate n f) ≡ refused 9 i
+    i_bad : anchor_good a ≡ false → (j < i → anchor_good b ≡ true) → last_verdict (tabulate n f) ≡ refused (refusal_at Made i)
     i_bad e wb = made_bad n f i i-inside (ap anchor_good new-i ∙ e) (λ q l. within_below i (λ h. absurd (omega arith)) wb q l (omega arith))
 
-    j_bad : anchor_good b ≡ false → (i < j → anchor_good a ≡ true) → last_verdict (tabulate n f) ≡ refused 9 j
+    j_bad : anchor_good b ≡ false → (i < j → anchor_good a ≡ true) → last_verdict (tabulate n f) ≡ refused (refusal_at Made j)
     j_bad e wa = made_bad n f j j-inside (ap anchor_good new-j ∙ e) (λ q l. within_below j wa (λ h. absurd (omega arith)) q l (omega arith))
 
     different : (place : ℕ) → None ≡ Some place → ⊥
     different place e = let z : ◌≡◌ {A = ℕ} 0 1 = cc in omega arith
 
-    same_place : (k place : ℕ) → Some k ≡ Some place → k ≡ place
-    same_place k place e = cc
+    same_refusal : (k place : ℕ) → Some k ≡ Some place → refused (refusal_at Made k) ≡ refused (refusal_at Made place)
+    same_refusal k place e = let p : k ≡ place = cc in rw p
 
-    pub two_bad : (place : ℕ) → first_out i a j b ≡ Some place → last_verdict (tabulate n f) ≡ refused 9 place
+    pub two_bad : (place : ℕ) → first_out i a j b ≡ Some place → last_verdict (tabulate n f) ≡ refused (refusal_at Made place)
     unfolding first_out
     two_bad place = go (anchor_good a) (anchor_good b) (ltb i j) refl refl refl
       where
         go : (x y z : Bool) → anchor_good a ≡ x → anchor_good b ≡ y → ltb i j ≡ z
-            → cond x (cond y None (Some j)) (cond z (Some i) (cond y (Some i) (Some j))) ≡ Some place → last_verdict (tabulate n f) ≡ refused 9 place
+            → cond x (cond y None (Some j)) (cond z (Some i) (cond y (Some i) (Some j))) ≡ Some place → last_verdict (tabulate n f) ≡ refused (refusal_at Made place)
         go true true z ea eb el e = absurd (different place e)
-        go true false z ea eb el e = j_bad eb (λ h. ea) ∙ ap (refused 9) (same_place j place e)
-        go false y true ea eb el e = let l = ltb-true i j el in i_bad ea (λ h. absurd (omega arith)) ∙ ap (refused 9) (same_place i place e)
-        go false true false ea eb el e = i_bad ea (λ h. eb) ∙ ap (refused 9) (same_place i place e)
-        go false false false ea eb el e = let l = ltb-false i j el in j_bad eb (λ h. absurd (omega arith)) ∙ ap (refused 9) (same_place j place e)
+        go true false z ea eb el e = j_bad eb (λ h. ea) ∙ same_refusal j place e
+        go false y true ea eb el e = let l = ltb-true i j el in i_bad ea (λ h. absurd (omega arith)) ∙ same_refusal i place e
+        go false true false ea eb el e = i_bad ea (λ h. eb) ∙ same_refusal i place e
+        go false false false ea eb el e = let l = ltb-false i j el in j_bad eb (λ h. absurd (omega arith)) ∙ same_refusal j place e
 
     pub two_good : first_out i a j b ≡ None → last_verdict (tabulate n f) ≡ accepted
     unfolding first_out

@@ -17,6 +17,8 @@ use Rattle.path.specs.Flat.{anchor_at, put_anchor, listed}
 use Rattle.bend.specs.Bent.{bent_out, bent_in}
 use Rattle.path.specs.Limit.{anchor_in}
 use Rattle.path.proofs.Limits.{GoodBelow}
+use Rattle.refusal.specs.Reasons.{refusal_at}
+use Rattle.refusal.specs.declared.Reason.TheVariants.{Made}
 use Rattle.refusal.specs.Order.{accepted, refused}
 use Rattle.views.specs.View.{tabulate}
 use Rattle.std.proofs.Common.{Some, None, ◌*◌}
@@ -106,7 +108,7 @@ module _ (shapes : List ℕ) (s a : ℕ) where
       j-inside = omega (arith, bend_places there, next_inside n a index)
 
       pub bent_bad : (place : ℕ) → first_out i (bent_out v keep (anchor_at anchors i)) j (bent_in v keep (anchor_at anchors j)) ≡ Some place
-          → last_verdict (tabulate (total shapes) (bend_at shapes anchors s a v keep)) ≡ refused 9 place
+          → last_verdict (tabulate (total shapes) (bend_at shapes anchors s a v keep)) ≡ refused (refusal_at Made place)
       bent_bad = two_bad anchors (total shapes) _ good long i j _ _ apart i-inside j-inside (start_anew many) (end_anew many (λ e. apart (sym e))) others_kept
 
       pub bent_good : first_out i (bent_out v keep (anchor_at anchors i)) j (bent_in v keep (anchor_at anchors j)) ≡ None

@@ -4,27 +4,30 @@ use mathlib.Core.Bool.{Bool, true, false}
 use mathlib.Core.List.{List}
 use Prim.Native.Nat.{ℕ}
 use lib.Ieee.{Float}
+use Rattle.std.proofs.Common.{Err}
+use Rattle.refusal.specs.Reasons.{refusal_at}
+use Rattle.refusal.specs.declared.Refusal.{Refusal}
+use Rattle.refusal.specs.declared.Reason.TheVariants.{Arguments, Reference}
 use Rattle.refusal.specs.Order.{judge, refused}
 use Rattle.refusal.proofs.Verdicts.{holds_true, holds_false, in_order, by_arguments, by_reference}
 use Rattle.path.specs.declared.anchor.Anchor.{Anchor}
 use Rattle.path.specs.Shape.{total}
-use Rattle.call.specs.declared.opening.Opened.TheVariants as opened
 use Rattle.call.specs.Tests.{opened_path}
 use Rattle.call.proofs.Openings.{PathOpens, path_refused}
 use Rattle.bend.specs.Edits.{edit_verdict, last_verdict}
 
 module _ (shapes : List ℕ) (anchors : List Float) (loose known : Bool) (after : List Anchor) where
-  pub path_fails : (c k : ℕ) → opened_path 512 shapes anchors ≡ opened.Refused c k → edit_verdict shapes anchors loose known after ≡ refused c k
+  pub path_fails : (why : Refusal) → opened_path 512 shapes anchors ≡ Err why → edit_verdict shapes anchors loose known after ≡ refused why
   unfolding edit_verdict
-  path_fails c k e = in_order _ _ _ _ _ _ ∙ path_refused 512 shapes anchors c k e loose _
+  path_fails why e = in_order _ _ _ _ _ _ ∙ path_refused 512 shapes anchors why e loose _
 
   module _ (n : ℕ) (o : PathOpens 512 shapes anchors n) where
-    pub loose_fails : loose ≡ false → edit_verdict shapes anchors loose known after ≡ refused 5 n
+    pub loose_fails : loose ≡ false → edit_verdict shapes anchors loose known after ≡ refused (refusal_at Arguments n)
     unfolding edit_verdict
     loose_fails e = rw o.count (by_arguments _ _ _ _ _ _ o.lists_pass (total shapes) (o.places_good loose ∙ holds_false (total shapes) e))
 
     module _ (l : loose ≡ true) where
-      pub unknown : known ≡ false → edit_verdict shapes anchors loose known after ≡ refused 6 0
+      pub unknown : known ≡ false → edit_verdict shapes anchors loose known after ≡ refused (refusal_at Reference 0)
       unfolding edit_verdict
       unknown e = by_reference _ _ _ _ _ _ o.lists_pass (o.places_good loose ∙ holds_true (total shapes) l) 0 (holds_false 0 e)
 

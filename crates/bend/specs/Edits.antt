@@ -1,9 +1,11 @@
 -- What the edits of handles answer, and what they leave of the path lent to them: refusals 7, 5, 6, 9. Assumes nothing.
-use Rattle.std.specs.Prelude.{ℕ, ◌+◌, Bool, true, ◌&&◌, cond, List, ltb, eqb, length, Float, Option, Some, None}
+use Rattle.std.specs.Prelude.{ℕ, ◌+◌, Bool, true, ◌&&◌, cond, List, ltb, eqb, length, Float, Option, Some, None, Result}
 use Rattle.views.specs.View.{tabulate}
 use Rattle.real.specs.Limit.{in_limit}
 use Rattle.geom.specs.declared.point.P.{P}
 use Rattle.geom.specs.Point.{point_in}
+use Rattle.refusal.specs.declared.Refusal.{Refusal}
+use Rattle.refusal.specs.declared.Reason.TheVariants.{Made}
 use Rattle.refusal.specs.Order.{passes, holds, judge, Verdict, accepted, verdict, tests}
 use Rattle.path.specs.declared.anchor.Anchor.{Anchor}
 use Rattle.path.specs.Shape.{count_of, closed_of, total, word_at, start, has_anchor, is_segment, next}
@@ -22,7 +24,7 @@ edit_verdict shapes anchors loose known after =
 
 -- the part of it that is left once 7, 5 and 6 have passed
 unfoldable pub last_verdict : List Anchor → Verdict
-last_verdict after = judge (outline_limit after) 9 accepted
+last_verdict after = judge (outline_limit after) Made accepted
 
 -- ---- `auto_smooth` of anchor k of subpath s
 -- the anchor at a place afterwards; a subpath of one anchor stays as it is
@@ -37,7 +39,7 @@ smooth_path shapes anchors s k = tabulate (total shapes) (smooth_at shapes ancho
 unfoldable pub smooth_verdict : List ℕ → List Float → ℕ → ℕ → Verdict
 smooth_verdict shapes anchors s k = edit_verdict shapes anchors true (has_anchor shapes s k) (smooth_path shapes anchors s k)
 
-unfoldable pub smooth_answer : List ℕ → List Float → ℕ → ℕ → Outline
+unfoldable pub smooth_answer : List ℕ → List Float → ℕ → ℕ → Result Outline Refusal
 smooth_answer shapes anchors s k = outline_answer (smooth_verdict shapes anchors s k) (length shapes) (total shapes)
 
 unfoldable pub smooth_left : List ℕ → List Float → ℕ → ℕ → List Float
@@ -63,7 +65,7 @@ unfoldable pub bend_verdict : List ℕ → List Float → ℕ → ℕ → Float 
 bend_verdict shapes anchors s a t delta keep =
     edit_verdict shapes anchors (in_limit t && point_in delta) (has_bend shapes s a) (bend_path shapes anchors s a (pull t delta) keep)
 
-unfoldable pub bend_answer : List ℕ → List Float → ℕ → ℕ → Float → P → Bool → Outline
+unfoldable pub bend_answer : List ℕ → List Float → ℕ → ℕ → Float → P → Bool → Result Outline Refusal
 bend_answer shapes anchors s a t delta keep = outline_answer (bend_verdict shapes anchors s a t delta keep) (length shapes) (total shapes)
 
 unfoldable pub bend_left : List ℕ → List Float → ℕ → ℕ → Float → P → Bool → List Float

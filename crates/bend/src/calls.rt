@@ -10,35 +10,46 @@ use crate::limits::first_out;
 use crate::neighbours::{point_after, point_before};
 use crate::places::has_bend;
 use crate::smoothing::smoothed;
-use call::{Opened, Outline};
+use call::Outline;
 use geom::P;
+use refusal::{Reason, Refusal};
 
 // Smooth handles for anchor k of subpath s, along its neighbours.
-pub fn auto_smooth(shapes: &[u32], anchors: &mut [f64], s: usize, k: usize) -> Outline
+pub fn auto_smooth(
+    shapes: &[u32],
+    anchors: &mut [f64],
+    s: usize,
+    k: usize,
+) -> Result<Outline, Refusal>
     ensures answer { result ≡ smooth_answer shapes.now anchors.old s k }
     ensures anchors { anchors.new ≡ smooth_left shapes.now anchors.old s k }
 {
-    match call::open_path(512, shapes, anchors) {
-        Opened::Refused(n, place) => Outline::Refused(n, place),
-        Opened::Anchors(count) => {
-            if !path::has_anchor(shapes, s, k) {
-                return Outline::Refused(refusal::REFERENCE, 0);
-            }
-            smooth_known(shapes, anchors, s, k, count)
-        }
+    let count = call::open_path(512, shapes, anchors)?;
+    if !path::has_anchor(shapes, s, k) {
+        return Err(Reason::Reference.at(0));
     }
+    smooth_known(shapes, anchors, s, k, count)
 }
 
 // The same of an anchor that there is, in a path that passed its tests.
 #[tactic(auto, using(path::proofs::Shapes::total_in))]
-fn smooth_known(shapes: &[u32], anchors: &mut [f64], s: usize, k: usize, count: usize) -> Outline
+fn smooth_known(
+    shapes: &[u32],
+    anchors: &mut [f64],
+    s: usize,
+    k: usize,
+    count: usize,
+) -> Result<Outline, Refusal>
     requires { (length shapes.now ≤ 32) × (total shapes.now ≤ 512) × (total shapes.now * 6 ≤ length anchors.old) × (count ≡ total shapes.now) × (s < length shapes.now) × (k < count_of (word_at shapes.now s)) × ((q : ℕ) → q < total shapes.now → anchor_in anchors.old q ≡ true) }
     ensures answer { result ≡ outline_answer (last_verdict (smooth_path shapes.now anchors.old s k)) (length shapes.now) (total shapes.now) }
     ensures anchors { anchors.new ≡ anchors_left (last_verdict (smooth_path shapes.now anchors.old s k)) (smooth_path shapes.now anchors.old s k) anchors.old }
 {
     let n = path::count_of(shapes[s]);
     if n < 2 {
-        return Outline::Accepted(shapes.len(), count);
+        return Ok(Outline {
+            subpaths: shapes.len(),
+            anchors: count,
+        });
     }
     let closed = path::closed_of(shapes[s]);
     let first = path::start_of(shapes, s);
@@ -47,10 +58,13 @@ fn smooth_known(shapes: &[u32], anchors: &mut [f64], s: usize, k: usize, count: 
     let place = first + k;
     let a = smoothed(before, path::anchor_at(anchors, place), after);
     if !a.in_limit() {
-        return Outline::Refused(refusal::RESULT, place);
+        return Err(Reason::Made.at(place));
     }
     path::put_anchor(anchors, place, a);
-    Outline::Accepted(shapes.len(), count)
+    Ok(Outline {
+        subpaths: shapes.len(),
+        anchors: count,
+    })
 }
 
 // The segment from anchor a of subpath s to the next, bent so that its point at t moves by delta; t counts as 0.08 below that, as 0.92
@@ -63,22 +77,18 @@ pub fn bend_segment(
     t: f64,
     delta: P,
     keep: bool,
-) -> Outline
+) -> Result<Outline, Refusal>
     ensures answer { result ≡ bend_answer shapes.now anchors.old s a t delta keep }
     ensures anchors { anchors.new ≡ bend_left shapes.now anchors.old s a t delta keep }
 {
-    match call::open_path(512, shapes, anchors) {
-        Opened::Refused(n, place) => Outline::Refused(n, place),
-        Opened::Anchors(count) => {
-            if !real::in_limit(t) || !delta.in_limit() {
-                return Outline::Refused(refusal::ARGUMENTS, count);
-            }
-            if !has_bend(shapes, s, a) {
-                return Outline::Refused(refusal::REFERENCE, 0);
-            }
-            bend_known(shapes, anchors, s, a, pull(t, delta), keep, count)
-        }
+    let count = call::open_path(512, shapes, anchors)?;
+    if !real::in_limit(t) || !delta.in_limit() {
+        return Err(Reason::Arguments.at(count));
     }
+    if !has_bend(shapes, s, a) {
+        return Err(Reason::Reference.at(0));
+    }
+    bend_known(shapes, anchors, s, a, pull(t, delta), keep, count)
 }
 
 // The same of a segment that there is, in a path that passed its tests, its inner control points moving by v.
@@ -91,14 +101,17 @@ fn bend_known(
     v: P,
     keep: bool,
     count: usize,
-) -> Outline
+) -> Result<Outline, Refusal>
     requires { (length shapes.now ≤ 32) × (total shapes.now ≤ 512) × (total shapes.now * 6 ≤ length anchors.old) × (count ≡ total shapes.now) × (has_bend shapes.now s a ≡ true) × ((q : ℕ) → q < total shapes.now → anchor_in anchors.old q ≡ true) }
     ensures answer { result ≡ outline_answer (last_verdict (bend_path shapes.now anchors.old s a v keep)) (length shapes.now) (total shapes.now) }
     ensures anchors { anchors.new ≡ anchors_left (last_verdict (bend_path shapes.now anchors.old s a v keep)) (bend_path shapes.now anchors.old s a v keep) anchors.old }
 {
     let n = path::count_of(shapes[s]);
     if n < 2 {
-        return Outline::Accepted(shapes.len(), count);
+        return Ok(Outline {
+            subpaths: shapes.len(),
+            anchors: count,
+        });
     }
     let first = path::start_of(shapes, s);
     let i = first + a;
@@ -106,9 +119,12 @@ fn bend_known(
     let from = bent_out(v, keep, path::anchor_at(anchors, i));
     let to = bent_in(v, keep, path::anchor_at(anchors, j));
     if let Some(place) = first_out(i, from, j, to) {
-        return Outline::Refused(refusal::RESULT, place);
+        return Err(Reason::Made.at(place));
     }
     path::put_anchor(anchors, i, from);
     path::put_anchor(anchors, j, to);
-    Outline::Accepted(shapes.len(), count)
+    Ok(Outline {
+        subpaths: shapes.len(),
+        anchors: count,
+    })
 }

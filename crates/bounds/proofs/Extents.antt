@@ -7,39 +7,41 @@ use lib.Dec.{eqb}
 use lib.Ieee.{Float}
 use borrow.Author.Tests.{eq-eqb, ne_eqb}
 use Rattle.geom.specs.declared.bounds.Bounds.{Bounds}
-use Rattle.refusal.specs.Order.{holds, judge, accepted, refused}
-use Rattle.refusal.proofs.Verdicts.{holds_true, holds_false, in_order, by_result, by_none}
+use Rattle.std.proofs.Common.{Ok, Err, Some, None}
+use Rattle.refusal.specs.declared.Refusal.{Refusal}
+use Rattle.refusal.specs.declared.Reason.TheVariants.{Made}
+use Rattle.refusal.specs.Reasons.{refusal_at}
+use Rattle.refusal.specs.Order.{holds, judge, accepted, refused, answering}
+use Rattle.refusal.proofs.Verdicts.{holds_true, holds_false, in_order, by_result, by_none, answers_err}
 use Rattle.path.specs.Shape.{total}
-use Rattle.call.specs.declared.opening.Opened.TheVariants as answered
 use Rattle.call.specs.Tests.{opened_path}
 use Rattle.call.proofs.Openings.{PathOpens, path_refused}
-use Rattle.bounds.specs.declared.boxes.Extent.TheVariants.{Refused, Empty, Box}
 use Rattle.bounds.specs.Points.{box_of}
-use Rattle.bounds.specs.Calls.{box_in, bounds_verdict, extent_answer, bounds_answer}
+use Rattle.bounds.specs.Calls.{box_in, bounds_verdict, bounds_answer}
 
 module _ (shapes : List ℕ) (anchors : List Float) where
-  path_fails : (c k : ℕ) → opened_path 1024 shapes anchors ≡ answered.Refused c k → bounds_verdict shapes anchors ≡ refused c k
+  path_fails : (why : Refusal) → opened_path 1024 shapes anchors ≡ Err why → bounds_verdict shapes anchors ≡ refused why
   unfolding bounds_verdict judge
-  path_fails c k e = in_order _ _ _ _ _ _ ∙ path_refused 1024 shapes anchors c k e true (judge (holds (eqb (total shapes) 0 || box_in (box_of shapes anchors)) 0) 9 accepted)
+  path_fails why e = in_order _ _ _ _ _ _ ∙ path_refused 1024 shapes anchors why e true (judge (holds (eqb (total shapes) 0 || box_in (box_of shapes anchors)) 0) Made accepted)
 
-  pub bounds-refused : (c k : ℕ) → opened_path 1024 shapes anchors ≡ answered.Refused c k → Refused c k ≡ bounds_answer shapes anchors
-  unfolding bounds_answer extent_answer
-  bounds-refused c k e = rw (path_fails c k e)
+  pub bounds-refused : (why : Refusal) → opened_path 1024 shapes anchors ≡ Err why → Err why ≡ bounds_answer shapes anchors
+  unfolding bounds_answer
+  bounds-refused why e = answers_err _ (path_fails why e)
 
   module _ (n : ℕ) (o : PathOpens 1024 shapes anchors n) where
     no_box : n ≡ 0 → bounds_verdict shapes anchors ≡ accepted
     unfolding bounds_verdict
     no_box e = by_none _ _ _ _ _ _ o.lists_pass (o.places_good true ∙ holds_true (total shapes) refl) refl refl (holds_true 0 (rw (eq-eqb (total shapes) 0 (sym o.count ∙ e)))) refl
 
-    pub bounds-empty : n ≡ 0 → Empty ≡ bounds_answer shapes anchors
-    unfolding bounds_answer extent_answer
+    pub bounds-empty : n ≡ 0 → Ok None ≡ bounds_answer shapes anchors
+    unfolding bounds_answer answering
     bounds-empty e = rw (no_box e, eq-eqb (total shapes) 0 (sym o.count ∙ e))
 
     module _ (some : (n ≡ 0 → ⊥)) (b : Bounds) (b-is : b ≡ box_of shapes anchors) where
       counted : (total shapes ≡ 0 → ⊥)
       counted e = some (o.count ∙ e)
 
-      out : box_in b ≡ false → bounds_verdict shapes anchors ≡ refused 9 0
+      out : box_in b ≡ false → bounds_verdict shapes anchors ≡ refused (refusal_at Made 0)
       unfolding bounds_verdict
       out e = by_result _ _ _ _ _ _ o.lists_pass (o.places_good true ∙ holds_true (total shapes) refl) refl refl 0 (holds_false 0 (rw (ne_eqb (total shapes) 0 counted, ← b-is, e)))
 
@@ -47,10 +49,10 @@ module _ (shapes : List ℕ) (anchors : List Float) where
       unfolding bounds_verdict
       fine e = by_none _ _ _ _ _ _ o.lists_pass (o.places_good true ∙ holds_true (total shapes) refl) refl refl (holds_true 0 (rw (ne_eqb (total shapes) 0 counted, ← b-is, e))) refl
 
-      pub bounds_out : box_in b ≡ false → Refused 9 0 ≡ bounds_answer shapes anchors
-      unfolding bounds_answer extent_answer
+      pub bounds_out : box_in b ≡ false → Err (refusal_at Made 0) ≡ bounds_answer shapes anchors
+      unfolding bounds_answer answering
       bounds_out e = rw (out e)
 
-      pub bounds_box : box_in b ≡ true → Box b.min b.max ≡ bounds_answer shapes anchors
-      unfolding bounds_answer extent_answer
+      pub bounds_box : box_in b ≡ true → Ok (Some b) ≡ bounds_answer shapes anchors
+      unfolding bounds_answer answering
       bounds_box e = rw (fine e, ne_eqb (total shapes) 0 counted, ← b-is)

@@ -1,12 +1,11 @@
 -- What `bounds` answers, after 000's `bounds` (document 01, 'Edits, hits and shapes'). Assumes nothing.
-use Rattle.std.specs.Prelude.{ℕ, Bool, true, ◌&&◌, ◌||◌, cond, List, eqb, Float}
+use Rattle.std.specs.Prelude.{ℕ, Bool, true, ◌&&◌, ◌||◌, cond, Result, Option, Some, None, List, eqb, Float}
 use Rattle.real.specs.Limit.{in_limit}
 use Rattle.geom.specs.declared.bounds.Bounds.{Bounds}
-use Rattle.refusal.specs.Order.{passes, holds, Verdict, accepted, refused, verdict, tests}
+use Rattle.refusal.specs.declared.Refusal.{Refusal}
+use Rattle.refusal.specs.Order.{passes, holds, Verdict, verdict, tests, answering}
 use Rattle.path.specs.Shape.{total}
 use Rattle.call.specs.Tests.{path_fits, path_limit}
-use Rattle.bounds.specs.declared.boxes.Extent.{Extent}
-use Rattle.bounds.specs.declared.boxes.Extent.TheVariants as extent
 use Rattle.bounds.specs.Points.{box_of}
 
 -- 9: the numbers of the box
@@ -19,9 +18,5 @@ bounds_verdict shapes anchors =
     verdict (tests (holds (path_fits 1024 shapes anchors) 0) (path_limit shapes anchors true) passes passes (holds (eqb (total shapes) 0 || box_in (box_of shapes anchors)) 0) passes)
 
 -- a path without anchors has no box
-unfoldable pub extent_answer : Verdict → ℕ → Bounds → Extent
-extent_answer (refused n place) count b = extent.Refused n place
-extent_answer accepted count b = cond (eqb count 0) extent.Empty (extent.Box b.min b.max)
-
-unfoldable pub bounds_answer : List ℕ → List Float → Extent
-bounds_answer shapes anchors = extent_answer (bounds_verdict shapes anchors) (total shapes) (box_of shapes anchors)
+unfoldable pub bounds_answer : List ℕ → List Float → Result (Option Bounds) Refusal
+bounds_answer shapes anchors = answering (bounds_verdict shapes anchors) (cond (eqb (total shapes) 0) None (Some (box_of shapes anchors)))

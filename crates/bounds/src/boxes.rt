@@ -5,16 +5,8 @@ ghost use Rattle.bounds.specs.Points.{grown_by, curve_points, subpath_points, bo
 ghost use Rattle.bounds.specs.Calls.{box_in, bounds_answer};
 
 use crate::growing::add;
-use call::Opened;
 use geom::{Bounds, P};
-
-// A refusal's number and place, the empty box, or a box's least corner and its greatest.
-#[derive(Clone, Copy)]
-pub enum Extent {
-    Refused(u32, usize),
-    Empty,
-    Box(P, P),
-}
+use refusal::{Reason, Refusal};
 
 // The box with the points of a curve.
 fn add_curve(mut b: Bounds, c: [P; 4]) -> Bounds
@@ -65,20 +57,18 @@ fn box_in(b: Bounds) -> bool
     b.min.in_limit() && b.max.in_limit()
 }
 
-// The box of a path of at most 1,024 anchors.
-pub fn bounds(shapes: &[u32], anchors: &[f64]) -> Extent
+// The box of a path of at most 1,024 anchors; a path without anchors has none.
+pub fn bounds(shapes: &[u32], anchors: &[f64]) -> Result<Option<Bounds>, Refusal>
     ensures { result ≡ bounds_answer shapes.now anchors.now }
 {
-    match call::open_path(1024, shapes, anchors) {
-        Opened::Refused(code, place) => Extent::Refused(code, place),
-        Opened::Anchors(0) => Extent::Empty,
-        Opened::Anchors(_) => {
-            let b = box_of(shapes, anchors);
-            if box_in(b) {
-                Extent::Box(b.min, b.max)
-            } else {
-                Extent::Refused(refusal::RESULT, 0)
-            }
-        }
+    let n = call::open_path(1024, shapes, anchors)?;
+    if n == 0 {
+        return Ok(None);
+    }
+    let b = box_of(shapes, anchors);
+    if box_in(b) {
+        Ok(Some(b))
+    } else {
+        Err(Reason::Made.at(0))
     }
 }

@@ -4,4 +4,4 @@
 mod boxes;
 mod growing;
 
-pub use boxes::{Extent, bounds};
+pub use boxes::bounds;

@@ -9,19 +9,20 @@ use lib.Ieee.{Float}
 use Rattle.views.specs.View.{entry}
 use Rattle.views.proofs.Searches.{all_true, all_false}
 use Rattle.real.specs.Limit.{in_limit}
+use Rattle.refusal.specs.Reasons.{refusal_at}
+use Rattle.refusal.specs.declared.Refusal.{Refusal}
+use Rattle.refusal.specs.declared.Reason.TheVariants.{Arguments, Lists, Made}
 use Rattle.refusal.specs.Order.{passes, holds, judge, accepted, refused}
 use Rattle.refusal.proofs.Verdicts.{in_order, by_lists, by_arguments, holds_false}
 use Rattle.path.specs.Shape.{total}
 use Rattle.path.proofs.Limits.{GoodBelow, Least}
 use Rattle.corner.specs.declared.kind.CornerKind.{CornerKind}
 use Rattle.assembly.specs.Assembled.{place_read, outline_of, outline_shapes}
-use Rattle.call.specs.declared.opening.Opened.TheVariants as opened
-use Rattle.call.specs.declared.answers.Outline.TheVariants.{Refused}
 use Rattle.call.specs.Tests.{opened_drawing}
 use Rattle.call.specs.Answers.{outline_answer, list_left}
 use Rattle.call.proofs.Openings.{places_fail, places_pass, DrawingOpens, drawing-refused}
 use Rattle.call.proofs.Handings.{outline-refused, list_kept, anchors_kept}
-use Rattle.std.proofs.Common.{Some, None}
+use Rattle.std.proofs.Common.{Some, None, Err}
 use Rattle.corner.specs.Kinds.{kind_of, is_known}
 use Rattle.cut_calls.specs.PlainCut.{view_at}
 use Rattle.cut_calls.specs.Made.{made_verdict, made_answer, made_shapes, made_anchors}
@@ -52,7 +53,7 @@ module _ (numbers : List Float) (k : ℕ) where
 
 -- ---- the last test of a cache
 module _ (good : ℕ → Bool) (n : ℕ) where
-  pub cache_bad : (k : ℕ) → Least good n k → cache_verdict good n ≡ refused 9 k
+  pub cache_bad : (k : ℕ) → Least good n k → cache_verdict good n ≡ refused (refusal_at Made k)
   unfolding cache_verdict judge
   cache_bad k l = rw (places_fail good n passes k l)
 
@@ -62,25 +63,25 @@ module _ (good : ℕ → Bool) (n : ℕ) where
 
 -- ---- `build`
 module _ (shapes : List ℕ) (anchors radii : List Float) (kind : ℕ) (numbers : List Float) (flags : List ℕ) where
-  pub build_lists : cache_fits shapes numbers flags ≡ false → build_verdict shapes anchors radii kind numbers flags ≡ refused 7 0
+  pub build_lists : cache_fits shapes numbers flags ≡ false → build_verdict shapes anchors radii kind numbers flags ≡ refused (refusal_at Lists 0)
   unfolding build_verdict
   build_lists e = by_lists _ _ _ _ _ _ 0 (holds_false 0 (rw e))
 
   -- what a refusal answers and leaves
-  pub build_refuses : (c k : ℕ) → build_verdict shapes anchors radii kind numbers flags ≡ refused c k
-      → (Refused c k ≡ build_answer shapes anchors radii kind numbers flags)
+  pub build_refuses : (why : Refusal) → build_verdict shapes anchors radii kind numbers flags ≡ refused why
+      → (Err why ≡ build_answer shapes anchors radii kind numbers flags)
       × (numbers ≡ build_numbers shapes anchors radii kind numbers flags)
       × (flags ≡ build_flags shapes anchors radii kind numbers flags)
   unfolding build_answer build_numbers build_flags
-  build_refuses c k e = (outline-refused _ _ e, list_kept _ _ _ e, list_kept _ _ _ e)
+  build_refuses why e = (outline-refused _ _ e, list_kept _ _ _ e, list_kept _ _ _ e)
 
   module _ (fit : cache_fits shapes numbers flags ≡ true) where
-    pub build_opening : (c k : ℕ) → opened_drawing shapes anchors radii ≡ opened.Refused c k → build_verdict shapes anchors radii kind numbers flags ≡ refused c k
+    pub build_opening : (why : Refusal) → opened_drawing shapes anchors radii ≡ Err why → build_verdict shapes anchors radii kind numbers flags ≡ refused why
     unfolding build_verdict
-    build_opening c k e = in_order _ _ _ _ _ _ ∙ rw fit (drawing-refused shapes anchors radii c k e _ _)
+    build_opening why e = in_order _ _ _ _ _ _ ∙ rw fit (drawing-refused shapes anchors radii why e _ _)
 
     module _ (n : ℕ) (o : DrawingOpens shapes anchors radii n) where
-      pub build-kind : (m : ℕ) → m ≡ total shapes → kind_of kind ≡ None → build_verdict shapes anchors radii kind numbers flags ≡ refused 5 m
+      pub build-kind : (m : ℕ) → m ≡ total shapes → kind_of kind ≡ None → build_verdict shapes anchors radii kind numbers flags ≡ refused (refusal_at Arguments m)
       unfolding build_verdict is_known
       build-kind m c e = rw c (by_arguments _ _ _ _ _ _ (rw fit o.lists_pass) (total shapes) (o.places_good _ ∙ holds_false (total shapes) (rw e)))
 
@@ -108,7 +109,7 @@ module _ (shapes : List ℕ) (anchors radii : List Float) (kind : ℕ) (numbers 
 -- ---- `assemble`
 module _ (shapes : List ℕ) (numbers : List Float) (flags : List ℕ) (to_shapes : List ℕ) (to : List Float) where
   pub assemble_lists : cache_fits shapes numbers flags ≡ false
-      → (Refused 7 0 ≡ assemble_answer shapes numbers flags to_shapes to)
+      → (Err (refusal_at Lists 0) ≡ assemble_answer shapes numbers flags to_shapes to)
       × (to_shapes ≡ assemble_shapes shapes numbers flags to_shapes to)
       × (to ≡ assemble_anchors shapes numbers flags to_shapes to)
   unfolding assemble_answer assemble_shapes assemble_anchors assemble_verdict

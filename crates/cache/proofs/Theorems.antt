@@ -13,7 +13,9 @@ use lib.Ieee.{Float, nan}
 use Rattle.views.specs.View.{entry, overwrite}
 use Rattle.views.specs.Search.{count}
 use Rattle.views.proofs.Laws.{length-overwrite, at_overwrite}
-use Rattle.refusal.specs.Order.{passes, holds, judge, accepted, refused}
+use Rattle.refusal.specs.Reasons.{refusal_at}
+use Rattle.refusal.specs.declared.Reason.TheVariants.{Made}
+use Rattle.refusal.specs.Order.{passes, holds, judge, accepted, refused, answering}
 use Rattle.refusal.proofs.Verdicts.{refusing}
 use Rattle.path.specs.declared.anchor.Anchor.{Anchor}
 use Rattle.path.specs.Shape.{total, start}
@@ -29,7 +31,7 @@ use Rattle.cut.specs.Outline.{cut_corners}
 use Rattle.cut.proofs.Outlines.{assembled-same, place_cut}
 use Rattle.assembly.specs.Assembled.{place_read, subpath_outline, outline_up_to, outline_of}
 use Rattle.assembly.proofs.Outlined.{outline-length}
-use Rattle.call.specs.declared.answers.Outline.TheVariants.{Accepted}
+use Rattle.std.proofs.Common.{Ok}
 use Rattle.call.specs.Tests.{outline_in, outline_limit, room_for}
 use Rattle.call.specs.Answers.{outline_answer, list_left}
 use Rattle.call.proofs.Openings.{places_fail, places_pass}
@@ -182,15 +184,15 @@ module _ (shapes : List ℕ) (anchors radii : List Float) (kind : ℕ) (numbers 
     built_made : build_verdict shapes anchors radii kind numbers flags ≡ cache_verdict good (total shapes)
     built_made = build-made shapes anchors radii kind numbers flags fit (total shapes) d.opens d.way d.known
 
-    cut_too : (j : ℕ) → build_verdict shapes anchors radii kind numbers flags ≡ refused 9 j → (i : ℕ) × (cut_verdict shapes anchors radii kind to_shapes to ≡ refused 9 i)
+    cut_too : (j : ℕ) → build_verdict shapes anchors radii kind numbers flags ≡ refused (refusal_at Made j) → (i : ℕ) × (cut_verdict shapes anchors radii kind to_shapes to ≡ refused (refusal_at Made i))
     unfolding made_verdict outline_limit judge
     cut_too j e =
         ⊎_elim
-        (λ g. absurd (refusing 9 j (sym e ∙ built_made ∙ cache_good good (total shapes) (outline_cached shapes cut_view g))))
+        (λ g. absurd (refusing _ (sym e ∙ built_made ∙ cache_good good (total shapes) (outline_cached shapes cut_view g))))
         (λ il. (il.0, cut-made ∙ rw (places_fail (outline_in ps) (length ps) passes il.0 il.1)))
         (search_to (outline_in ps) (length ps))
 
-    build_too : (i : ℕ) → cut_verdict shapes anchors radii kind to_shapes to ≡ refused 9 i → (j : ℕ) × (build_verdict shapes anchors radii kind numbers flags ≡ refused 9 j)
+    build_too : (i : ℕ) → cut_verdict shapes anchors radii kind to_shapes to ≡ refused (refusal_at Made i) → (j : ℕ) × (build_verdict shapes anchors radii kind numbers flags ≡ refused (refusal_at Made j))
     unfolding made_verdict outline_limit judge
     build_too i e =
         ⊎_elim
@@ -198,7 +200,7 @@ module _ (shapes : List ℕ) (anchors radii : List Float) (kind : ℕ) (numbers 
         (λ jl. (jl.0, built_made ∙ cache_bad good (total shapes) jl.0 jl.1))
         (search_to good (total shapes))
 
-  pub nine_together : ((j : ℕ) × (build_verdict shapes anchors radii kind numbers flags ≡ refused 9 j)) ↔ ((i : ℕ) × (cut_verdict shapes anchors radii kind to_shapes to ≡ refused 9 i))
+  pub nine_together : ((j : ℕ) × (build_verdict shapes anchors radii kind numbers flags ≡ refused (refusal_at Made j))) ↔ ((i : ℕ) × (cut_verdict shapes anchors radii kind to_shapes to ≡ refused (refusal_at Made i)))
   nine_together = (
     λ je. cut_too (build_nine_says shapes anchors radii kind numbers flags je.0 je.1) je.0 je.1,
     λ ie. build_too (cut_nine_says shapes anchors radii kind to_shapes to ie.0 ie.1) ie.0 ie.1,
@@ -207,6 +209,6 @@ module _ (shapes : List ℕ) (anchors radii : List Float) (kind : ℕ) (numbers 
 -- ---- (3) any cache: as many anchors as places, and one more for each that is cut
 pub assembled_anchors : (shapes : List ℕ) (numbers : List Float) (flags : List ℕ) (to_shapes : List ℕ) (to : List Float)
     → assemble_verdict shapes numbers flags to_shapes to ≡ accepted
-    → assemble_answer shapes numbers flags to_shapes to ≡ Accepted (length shapes) (total shapes + count (λ k. leb 2147483648 (get_or flags k 0)) (total shapes))
-unfolding assemble_answer outline_answer held_outline place_read
-assembled_anchors shapes numbers flags to_shapes to v = rw v (ap (Accepted (length shapes)) (outline-length shapes (place_read numbers flags)))
+    → assemble_answer shapes numbers flags to_shapes to ≡ Ok (record { subpaths = length shapes; anchors = total shapes + count (λ k. leb 2147483648 (get_or flags k 0)) (total shapes) })
+unfolding assemble_answer outline_answer answering held_outline place_read
+assembled_anchors shapes numbers flags to_shapes to v = rw v (ap (λ n. Ok (record { subpaths = length shapes; anchors = n })) (outline-length shapes (place_read numbers flags)))

@@ -1,5 +1,6 @@
 -- What the calls on caches answer, and what they leave in the lists lent to them (document 01, 'Kept outline'). Assumes nothing.
-use Rattle.std.specs.Prelude.{ℕ, ◌*◌, false, ◌&&◌, List, length, Float}
+use Rattle.std.specs.Prelude.{ℕ, ◌*◌, false, ◌&&◌, List, length, Float, Option, Some, None, Result}
+use Rattle.refusal.specs.declared.Refusal.{Refusal}
 use Rattle.refusal.specs.Order.{passes, holds, Verdict, verdict, tests}
 use Rattle.geom.specs.Point.{origin}
 use Rattle.path.specs.declared.anchor.Anchor.{Anchor}
@@ -10,9 +11,7 @@ use Rattle.assembly.specs.Assembled.{place_read, outline_of, outline_shapes}
 use Rattle.call.specs.declared.answers.Outline.{Outline}
 use Rattle.call.specs.Tests.{places, drawing_fits, drawing_limit, outline_limit, room_for}
 use Rattle.call.specs.Answers.{outline_answer, list_left, anchors_left}
-use Rattle.std.specs.Prelude.{Option}
 use Rattle.corner.specs.declared.kind.CornerKind.{CornerKind}
-use Rattle.std.specs.Prelude.{Some, None}
 use Rattle.corner.specs.Kinds.{kind_of, is_known}
 use Rattle.cut_calls.specs.PlainCut.{view_at}
 use Rattle.cache.specs.Cache.{place_of_path, cached_numbers, cached_flags, cached_in}
@@ -38,7 +37,7 @@ build_verdict shapes anchors radii kind numbers flags =
     passes)
 
 -- how many subpaths and places
-unfoldable pub build_answer : List ℕ → List Float → List Float → ℕ → List Float → List ℕ → Outline
+unfoldable pub build_answer : List ℕ → List Float → List Float → ℕ → List Float → List ℕ → Result Outline Refusal
 build_answer shapes anchors radii kind numbers flags = outline_answer (build_verdict shapes anchors radii kind numbers flags) (length shapes) (total shapes)
 
 unfoldable pub build_numbers : List ℕ → List Float → List Float → ℕ → List Float → List ℕ → List Float
@@ -67,7 +66,7 @@ assemble_verdict shapes numbers flags to_shapes to =
     (outline_limit ps)
     (holds (room_for (length shapes) (length ps) to_shapes to) 0))
 
-unfoldable pub assemble_answer : List ℕ → List Float → List ℕ → List ℕ → List Float → Outline
+unfoldable pub assemble_answer : List ℕ → List Float → List ℕ → List ℕ → List Float → Result Outline Refusal
 assemble_answer shapes numbers flags to_shapes to =
     outline_answer (assemble_verdict shapes numbers flags to_shapes to) (length shapes) (length (held_outline shapes numbers flags))
 

@@ -9,8 +9,9 @@ ghost use Rattle.cache.specs.Calls.{build_answer, build_numbers, build_flags};
 
 use crate::sizes::size_test;
 use crate::writing::write_cache;
-use call::{Opened, Outline};
+use call::Outline;
 use corner::CornerKind;
+use refusal::{Reason, Refusal};
 
 // The cache of a drawing: its cut, place by place, every corner in one way. The answer's anchors are the places.
 pub fn build(
@@ -20,27 +21,24 @@ pub fn build(
     kind: u32,
     numbers: &mut [f64],
     flags: &mut [u32],
-) -> Outline
+) -> Result<Outline, Refusal>
     ensures answer { result ≡ build_answer shapes.now anchors.now radii.now kind numbers.old flags.old }
     ensures numbers { numbers.new ≡ build_numbers shapes.now anchors.now radii.now kind numbers.old flags.old }
     ensures flags { flags.new ≡ build_flags shapes.now anchors.now radii.now kind numbers.old flags.old }
 {
-    let size = size_test(shapes, numbers, flags);
-    let Some(places) = size else {
-        return Outline::Refused(refusal::LISTS, 0);
+    let Some(places) = size_test(shapes, numbers, flags) else {
+        return Err(Reason::Lists.at(0));
     };
-    let opened = call::open_drawing(shapes, anchors, radii);
-    if let Opened::Refused(number, place) = opened {
-        return Outline::Refused(number, place);
-    }
+    call::open_drawing(shapes, anchors, radii)?;
     let Ok(kind) = CornerKind::try_from(kind) else {
-        return Outline::Refused(refusal::ARGUMENTS, places);
+        return Err(Reason::Arguments.at(places));
     };
     // Clearing the larger scratch would take longer than the cut.
     if places <= 32 {
-        return build_within::<32, 384>(shapes, anchors, radii, kind, numbers, flags);
+        build_within::<32, 384>(shapes, anchors, radii, kind, numbers, flags)
+    } else {
+        build_within::<512, 6144>(shapes, anchors, radii, kind, numbers, flags)
     }
-    build_within::<512, 6144>(shapes, anchors, radii, kind, numbers, flags)
 }
 
 // With scratch for so many places, and for twelve numbers each.
@@ -51,7 +49,7 @@ fn build_within<const PLACES: usize, const NUMBERS: usize>(
     kind: CornerKind,
     numbers: &mut [f64],
     flags: &mut [u32],
-) -> Outline
+) -> Result<Outline, Refusal>
     requires drawing { (length shapes.now ≤ 32) × (total shapes.now ≤ 512) × (total shapes.now * 6 ≤ length anchors.now) × (total shapes.now ≤ length radii.now) }
     requires cache { (total shapes.now * 12 ≤ length numbers.old) × (total shapes.now ≤ length flags.old) }
     requires scratch { (total shapes.now ≤ PLACES) × (PLACES * 12 ≤ NUMBERS) × (NUMBERS ≤ 6144) }

@@ -6,10 +6,7 @@ ghost use Rattle.cache.specs.Tests.{cache_size};
 pub fn size_test(shapes: &[u32], numbers: &[f64], flags: &[u32]) -> Option<usize>
     ensures { result ≡ cache_size shapes.now numbers.now flags.now }
 {
-    let size = path::size_test(shapes, 512);
-    let Some(n) = size else {
-        return None;
-    };
+    let n = path::size_test(shapes, 512)?;
     if numbers.len() < n * 12 {
         return None;
     }

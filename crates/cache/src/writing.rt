@@ -7,6 +7,7 @@ ghost use Rattle.call.specs.Answers.{outline_answer, list_left};
 ghost use Rattle.cache.specs.Tests.{twelve_in, cache_verdict};
 
 use call::Outline;
+use refusal::{Reason, Refusal};
 
 // The first of n places of which one of the twelve numbers breaks the limit.
 pub fn first_bad_place(numbers: &[f64], n: usize) -> Option<usize>
@@ -32,7 +33,7 @@ pub fn write_cache(
     laid_flags: &[u32],
     numbers: &mut [f64],
     flags: &mut [u32],
-) -> Outline
+) -> Result<Outline, Refusal>
     requires shapes_len_bound { (length shapes.now ≤ 32) × (total shapes.now ≤ 512) × (total shapes.now * 12 ≤ length laid.now) × (total shapes.now ≤ length laid_flags.now) }
     requires shapes_in_bounds { (total shapes.now * 12 ≤ length numbers.old) × (total shapes.now ≤ length flags.old) }
     ensures answer { result ≡ outline_answer (cache_verdict (twelve_in laid.now) (total shapes.now)) (length shapes.now) (total shapes.now) }
@@ -40,11 +41,13 @@ pub fn write_cache(
     ensures flags { flags.new ≡ list_left (cache_verdict (twelve_in laid.now) (total shapes.now)) (total shapes.now) (λ k. get_or laid_flags.now k 0) flags.old }
 {
     let n = path::total_of(shapes);
-    let bad = first_bad_place(laid, n);
-    if let Some(k) = bad {
-        return Outline::Refused(refusal::RESULT, k);
+    if let Some(k) = first_bad_place(laid, n) {
+        return Err(Reason::Made.at(k));
     }
     views::copy(laid, n * 12, numbers);
     views::copy(laid_flags, n, flags);
-    Outline::Accepted(shapes.len(), n)
+    Ok(Outline {
+        subpaths: shapes.len(),
+        anchors: n,
+    })
 }

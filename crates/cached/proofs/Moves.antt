@@ -8,6 +8,7 @@ use native.Mathlib.Omega.{arith}
 use lib.Dec.{eqb}
 use lib.Ieee.{Float}
 use borrow.Author.Tests.{eq-eqb, ne_eqb}
+use Rattle.std.proofs.Common.{Ok}
 use Rattle.views.specs.View.{entry}
 use Rattle.views.proofs.Laws.{same}
 use Rattle.path.specs.declared.anchor.Anchor.{Anchor}
@@ -17,7 +18,6 @@ use Rattle.path.specs.Shape.{start}
 use Rattle.cut.specs.Recut.{recut_numbers, recut_flags}
 use Rattle.cut_calls.specs.PlainCut.{sub_at}
 use Rattle.recutting.specs.declared.plans.Plan.{Plan}
-use Rattle.session.specs.declared.answers.Edited.TheVariants.{Accepted}
 use Rattle.session.specs.Drawing.{Lent, drawn, view_in}
 use Rattle.session.specs.Edits.{move, moved, edit_of}
 use Rattle.session.specs.Calls.{written_good}
@@ -63,7 +63,7 @@ module _ (l : Lent) (kind s i : ℕ) (new : Anchor) where
       → (anchors numbers : List Float) (flags : List ℕ) → anchors ≡ put_anchor l.anchors (start l.shapes s + i) new
       → numbers ≡ recut_numbers (view_in (edit_of (drawn l kind) (move s i new)).made s) (start l.shapes s) 3 i l.numbers
       → flags ≡ recut_flags (view_in (edit_of (drawn l kind) (move s i new)).made s) (start l.shapes s) 3 i l.flags
-      → Does l kind (move s i new) (Accepted p.count p.total) (lent l.shapes anchors l.radii numbers flags)
+      → Does l kind (move s i new) (Ok (record { recut = p.count; anchors = p.total })) (lent l.shapes anchors l.radii numbers flags)
   unfolding edit_of moved drawn sub_at
   move_done p a anchors numbers flags x y z =
       let at = a.stands in

@@ -1,6 +1,6 @@
 -- An edit of a drawing that passed 7 and 5: what the test of the places within reach says of it; and the plan of an edit of one anchor. Assumes nothing.
 use mathlib.Core.Path.{◌≡◌, refl, sym, ap, ◌∙◌}
-use mathlib.Core.Logic.{inl, inr, ⊎_elim}
+use mathlib.Core.Logic.{⊎_elim}
 use mathlib.Core.Bool.{Bool, true, false, not, ◌||◌, cond}
 use Prim.Native.Nat.{ℕ, ◌+◌, ◌-◌, ◌*◌, ◌≤◌, ◌<◌}
 use native.Mathlib.Omega.{arith}
@@ -13,14 +13,16 @@ use Rattle.views.specs.Search.{all}
 use Rattle.views.proofs.Bools.{and_false, and_left, and_right}
 use Rattle.views.proofs.Laws.{order}
 use Rattle.real.specs.Limit.{in_limit}
+use Rattle.refusal.specs.Reasons.{refusal_at}
+use Rattle.refusal.specs.declared.Refusal.{Refusal}
+use Rattle.refusal.specs.declared.Reason.TheVariants.{Reference, Made}
 use Rattle.refusal.specs.Order.{refused}
 use Rattle.path.specs.declared.anchor.Anchor.{Anchor}
-use Rattle.std.proofs.Common.{Some, None}
+use Rattle.std.proofs.Common.{Some, None, IfOk, Ok, Err, Result}
 use Rattle.path.specs.Flat.{anchor_at}
 use Rattle.path.specs.Shape.{count_of, closed_of, total, word_at, start, has_anchor}
 use Rattle.path.proofs.Shapes.{total_in}
 use Rattle.path.proofs.Limits.{GoodBelow, Least, first_is, none_is}
-use Rattle.corner.specs.declared.kind.CornerKind.{CornerKind}
 use Rattle.cut.specs.declared.subpath.Sub.{Sub}
 use Rattle.cut.specs.declared.subpath.Window.{Window}
 use Rattle.cut.specs.View.{View}
@@ -34,7 +36,6 @@ use Rattle.cache.specs.Cache.{cached_in}
 use Rattle.recutting.specs.declared.plans.Plan.{Plan}
 use Rattle.recutting.specs.Near.{reached_in, passes_near, good_near}
 use Rattle.recutting.specs.Stretch.{Put, Accepts, Decides, places_found}
-use Rattle.session.specs.declared.answers.Edited.TheVariants.{Refused, Accepted}
 use Rattle.session.specs.Drawing.{Lent, corner_kind, drawn, view_in}
 use Rattle.session.specs.Edits.{Call, Edit, edit_of, places_of}
 use Rattle.session.specs.Calls.{written_good, recut_good, room_in, edit_verdict, edited_lists}
@@ -42,11 +43,11 @@ use Rattle.session.specs.Model.{lengths_of, recut_count}
 use Rattle.session.proofs.Splits.{Like}
 use Rattle.session.proofs.Recutting.{recut_place}
 use Rattle.session.proofs.Outcomes.{out_reference, out_recut, out_pass, refused-answer, refused_lists, accepted_answer, accepted_lists}
-use Rattle.cached.specs.declared.opening.Ready.TheVariants as ready
+use Rattle.cached.specs.declared.opening.Ready.{Ready}
 use Rattle.cached.specs.Opening.{ready_of}
 use Rattle.cached.specs.Doing.{Does}
 use Rattle.cached.specs.Planning.{Stands, Allowed, Planned}
-use Rattle.cached.proofs.Openings.{ReadyFor, ready_says, edit_closed, ready-number}
+use Rattle.cached.proofs.Openings.{ReadyFor, ready_says}
 
 pub like_self : (v : View) → Like v v
 like_self v = record { n = refl; closed = refl; chords = refl; anchors = λ j l. refl; radii = λ j l. refl; kinds = λ j l. refl }
@@ -126,23 +127,19 @@ inside_of l s at sub e =
 
 -- ---- any edit
 module _ (l : Lent) (kind : ℕ) (c : Call) where
-  pub does-refuse : (x place : ℕ) → edit_verdict l kind (edit_of (drawn l kind) c) ≡ refused x place → Does l kind c (Refused x place) l
-  does-refuse x place v = record { answer = refused-answer l kind c x place v; lists = refused_lists l kind c x place v }
+  pub does-refuse : (why : Refusal) → edit_verdict l kind (edit_of (drawn l kind) c) ≡ refused why → Does l kind c (Err why) l
+  does-refuse why v = record { answer = refused-answer l kind c why v; lists = refused_lists l kind c why v }
 
-  pub does_accept : (s at reach : ℕ) (p : Plan) → Allowed l kind c s at reach p → (after : Lent) → after ≡ edited_lists l (edit_of (drawn l kind) c) → Does l kind c (Accepted p.count p.total) after
+  pub does_accept : (s at reach : ℕ) (p : Plan) → Allowed l kind c s at reach p → (after : Lent) → after ≡ edited_lists l (edit_of (drawn l kind) c)
+      → Does l kind c (Ok (record { recut = p.count; anchors = p.total })) after
   does_accept s at reach p a after e = record { answer = a.answer; lists = e ∙ accepted_lists l kind c a.verdict }
 
-  -- ---- 7 and 5
-  pub plan_closed : (s at reach : ℕ) (p : Plan) (x place : ℕ) → ready_of l kind (edit_of (drawn l kind) c).loose ≡ ready.Refused x place → p.number ≡ x → p.place ≡ place → Planned l kind c s at reach p
-  plan_closed s at reach p x place h n k =
-      inl ((λ z. ready-number l kind (edit_of (drawn l kind) c).loose x place h (sym n ∙ z)), edit_closed l kind (edit_of (drawn l kind) c) x place h ∙ cc (n, k))
-
   -- ---- 6
-  pub plan_nowhere : (s at reach : ℕ) (p : Plan) (m : ℕ) (way : CornerKind) → ready_of l kind (edit_of (drawn l kind) c).loose ≡ ready.Known m way → (edit_of (drawn l kind) c).known ≡ false
-      → p.number ≡ 6 → p.place ≡ 0 → Planned l kind c s at reach p
-  plan_nowhere s at reach p m way h f n k =
-      let r = ready_says l kind (edit_of (drawn l kind) c).loose m way h in
-      inl ((λ z. omega arith), out_reference l kind (edit_of (drawn l kind) c) r.fits r.good_places r.arguments f ∙ cc (n, k))
+  pub plan_nowhere : (r : Ready) → ready_of l kind (edit_of (drawn l kind) c).loose ≡ Ok r → (edit_of (drawn l kind) c).known ≡ false
+      → edit_verdict l kind (edit_of (drawn l kind) c) ≡ refused (refusal_at Reference 0)
+  plan_nowhere r h f =
+      let o = ready_says l kind (edit_of (drawn l kind) c).loose r h in
+      out_reference l kind (edit_of (drawn l kind) c) o.fits o.good_places o.arguments f
 
 -- ---- an edit of one anchor
 pub record One (l : Lent) (kind : ℕ) (c : Call) (s i reach : ℕ) (new : Anchor) (radius : Float) : Type 0 where
@@ -156,12 +153,12 @@ pub record One (l : Lent) (kind : ℕ) (c : Call) (s i reach : ℕ) (new : Ancho
   pub count : recut_count (drawn l kind) c ≡ near_count reach (count_of (word_at l.shapes s)) (closed_of (word_at l.shapes s)) i
 
 module _ (l : Lent) (kind : ℕ) (c : Call) (s i reach : ℕ) (new : Anchor) (radius : Float) (one : One l kind c s i reach new radius)
-    (m : ℕ) (way : CornerKind) (is : ready_of l kind (edit_of (drawn l kind) c).loose ≡ ready.Known m way) (has : has_anchor l.shapes s i ≡ true) where
+    (ready : Ready) (is : ready_of l kind (edit_of (drawn l kind) c).loose ≡ Ok ready) (has : has_anchor l.shapes s i ≡ true) where
   abbrev e : Edit
   e = edit_of (drawn l kind) c
 
-  ready_here : ReadyFor l kind (edit_of (drawn l kind) c).loose m way
-  ready_here = ready_says l kind (edit_of (drawn l kind) c).loose m way is
+  ready_here : ReadyFor l kind (edit_of (drawn l kind) c).loose ready
+  ready_here = ready_says l kind (edit_of (drawn l kind) c).loose ready is
 
   pub one_there : s < length l.shapes
   unfolding has_anchor
@@ -186,7 +183,7 @@ module _ (l : Lent) (kind : ℕ) (c : Call) (s i reach : ℕ) (new : Anchor) (ra
         flags = r.long.flags;
       }
 
-  pub one_put : Put (view_in (edit_of (drawn l kind) c).made s) way (sub_at l.shapes s) i new radius l.anchors l.radii
+  pub one_put : Put (view_in (edit_of (drawn l kind) c).made s) ready.kind (sub_at l.shapes s) i new radius l.anchors l.radii
   unfolding view_in view_of sub_at
   one_put = record {
     size = ap (λ z. count_of (word_at z s)) one.shapes;
@@ -211,43 +208,41 @@ module _ (l : Lent) (kind : ℕ) (c : Call) (s i reach : ℕ) (new : Anchor) (ra
         le-leb (total l.shapes) (length l.flags) g.flags,
       ))
 
-  module _ (p : Plan) (whole : p.number ≡ 0 → p.total ≡ m) (d : Decides (view_in (edit_of (drawn l kind) c).made s) (sub_at l.shapes s) (record { at = i; reach = reach }) p) where
-    there_made : s < length (edit_of (drawn l kind) c).made.shapes
-    there_made = rw one.shapes one_there
+  there_made : s < length (edit_of (drawn l kind) c).made.shapes
+  there_made = rw one.shapes one_there
 
-    recuts_made : (k : ℕ) → (edit_of (drawn l kind) c).recuts k ≡ reached (view_in (edit_of (drawn l kind) c).made s) (start (edit_of (drawn l kind) c).made.shapes s) reach i k
-    recuts_made k = one.recuts k ∙ ap (λ z. reached (view_in (edit_of (drawn l kind) c).made s) (start z s) reach i k) (sym one.shapes)
+  recuts_made : (k : ℕ) → (edit_of (drawn l kind) c).recuts k ≡ reached (view_in (edit_of (drawn l kind) c).made s) (start (edit_of (drawn l kind) c).made.shapes s) reach i k
+  recuts_made k = one.recuts k ∙ ap (λ z. reached (view_in (edit_of (drawn l kind) c).made s) (start z s) reach i k) (sym one.shapes)
 
-    few : total (edit_of (drawn l kind) c).made.shapes ≤ 512
-    few = omega (arith, same_total, ready_here.few)
+  few : total (edit_of (drawn l kind) c).made.shapes ≤ 512
+  few = omega (arith, same_total, ready_here.few)
 
-    written : GoodBelow (written_good (edit_of (drawn l kind) c)) (total (edit_of (drawn l kind) c).made.shapes)
-    written k h = one.written (and_right (is_known (kind_of kind)) (edit_of (drawn l kind) c).loose ready_here.arguments) k
+  written : GoodBelow (written_good (edit_of (drawn l kind) c)) (total (edit_of (drawn l kind) c).made.shapes)
+  written k h = one.written (and_right (is_known (kind_of kind)) (edit_of (drawn l kind) c).loose ready_here.arguments) k
 
-    refuses : (p.number ≡ 9) × (places_found (view_in (edit_of (drawn l kind) c).made s) (sub_at l.shapes s) (record { at = i; reach = reach }) ≡ Some p.place) → Planned l kind c s i reach p
-    refuses h =
-        let r = ready_here in
-        let n = h.0 in
-        let f = ap (λ z. places_found (view_in (edit_of (drawn l kind) c).made s) (sub_at z s) (record { at = i; reach = reach })) one.shapes ∙ h.1 in
-        inl ((λ z. omega arith), out_recut l kind e r.fits r.good_places r.arguments (one.known ∙ has) few written p.place (found_bad e s i reach there_made recuts_made p.place f) ∙ ap (λ z. refused z p.place) (sym n))
+  refuses : (why : Refusal) → why.reason ≡ Made → places_found (view_in (edit_of (drawn l kind) c).made s) (sub_at l.shapes s) (record { at = i; reach = reach }) ≡ Some why.place
+      → edit_verdict l kind (edit_of (drawn l kind) c) ≡ refused why
+  refuses why n h =
+      let r = ready_here in
+      let f = ap (λ z. places_found (view_in (edit_of (drawn l kind) c).made s) (sub_at z s) (record { at = i; reach = reach })) one.shapes ∙ h in
+      out_recut l kind e r.fits r.good_places r.arguments (one.known ∙ has) few written why.place (found_bad e s i reach there_made recuts_made why.place f)
+      ∙ ap (λ z. refused (refusal_at z why.place)) (sym n)
 
-    accepts : (p.number ≡ 0) × Accepts (view_in (edit_of (drawn l kind) c).made s) (sub_at l.shapes s) (record { at = i; reach = reach }) p → Planned l kind c s i reach p
-    unfolding sub_at drawn
-    accepts h =
-        let r = ready_here in
-        let a = h.1 in
-        let f = ap (λ z. places_found (view_in (edit_of (drawn l kind) c).made s) (sub_at z s) (record { at = i; reach = reach })) one.shapes ∙ a.none in
-        let v = out_pass l kind e r.fits r.good_places r.arguments (one.known ∙ has) few written (found_good e s i reach there_made recuts_made f) room in
-        inr (
-          h.0,
-          record {
-            verdict = v;
-            answer = cc (a.count, whole h.0, r.count, same_total, one.count) ∙ accepted_answer l kind c v r.few (one.known ∙ has);
-            stands = one_stands;
-            index = rw one.shapes one_inside;
-            places = rw one.shapes a;
-          },
-        )
+  accepts : (p : Plan) → p.total ≡ ready.anchors → Accepts (view_in (edit_of (drawn l kind) c).made s) (sub_at l.shapes s) (record { at = i; reach = reach }) p → Allowed l kind c s i reach p
+  unfolding sub_at drawn
+  accepts p whole a =
+      let r = ready_here in
+      let f = ap (λ z. places_found (view_in (edit_of (drawn l kind) c).made s) (sub_at z s) (record { at = i; reach = reach })) one.shapes ∙ a.none in
+      let v = out_pass l kind e r.fits r.good_places r.arguments (one.known ∙ has) few written (found_good e s i reach there_made recuts_made f) room in
+      record {
+        verdict = v;
+        answer = cc (a.count, whole, r.count, same_total, one.count) ∙ accepted_answer l kind c v r.few (one.known ∙ has);
+        stands = one_stands;
+        index = rw one.shapes one_inside;
+        places = rw one.shapes a;
+      }
 
-    pub one_decided : Planned l kind c s i reach p
-    one_decided = ⊎_elim refuses accepts d
+  pub one_decided : (r : Result Plan Refusal) → IfOk r (λ p. p.total ≡ ready.anchors) → Decides (view_in (edit_of (drawn l kind) c).made s) (sub_at l.shapes s) (record { at = i; reach = reach }) r
+      → Planned l kind c s i reach r
+  one_decided (Ok p) whole a = accepts p whole a
+  one_decided (Err why) whole d = refuses why d.0 d.1

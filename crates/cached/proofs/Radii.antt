@@ -5,13 +5,13 @@ use mathlib.Core.List.{List}
 use Prim.Native.Nat.{ℕ, ◌+◌}
 use lib.ListN.{set}
 use lib.Ieee.{Float}
+use Rattle.std.proofs.Common.{Ok}
 use Rattle.views.specs.View.{entry}
 use Rattle.path.specs.Flat.{anchor_at}
 use Rattle.path.specs.Shape.{start}
 use Rattle.cut.specs.Recut.{recut_numbers, recut_flags}
 use Rattle.cut_calls.specs.PlainCut.{sub_at}
 use Rattle.recutting.specs.declared.plans.Plan.{Plan}
-use Rattle.session.specs.declared.answers.Edited.TheVariants.{Accepted}
 use Rattle.session.specs.Drawing.{Lent, drawn, view_in}
 use Rattle.session.specs.Edits.{set_radius, resized, edit_of}
 use Rattle.session.specs.Calls.{written_good}
@@ -42,7 +42,7 @@ module _ (l : Lent) (kind s i : ℕ) (radius : Float) where
       → (radii numbers : List Float) (flags : List ℕ) → radii ≡ set l.radii (start l.shapes s + i) radius
       → numbers ≡ recut_numbers (view_in (edit_of (drawn l kind) (set_radius s i radius)).made s) (start l.shapes s) 2 i l.numbers
       → flags ≡ recut_flags (view_in (edit_of (drawn l kind) (set_radius s i radius)).made s) (start l.shapes s) 2 i l.flags
-      → Does l kind (set_radius s i radius) (Accepted p.count p.total) (lent l.shapes l.anchors radii numbers flags)
+      → Does l kind (set_radius s i radius) (Ok (record { recut = p.count; anchors = p.total })) (lent l.shapes l.anchors radii numbers flags)
   unfolding edit_of resized drawn sub_at
   radius_done p a radii numbers flags x y z =
       let at = a.stands in

@@ -1,6 +1,8 @@
 -- What the functions hand to each other on the way: an edit of one anchor, and the plan that an edit makes of lists that are only read. Assumes nothing.
-use Rattle.std.specs.Prelude.{ℕ, ◌+◌, ◌*◌, ◌≤◌, ◌<◌, ◌≡◌, ◌⊎◌, Bool, length, Float}
+use Rattle.std.proofs.Common.{Ok, Result}
+use Rattle.std.specs.Prelude.{ℕ, ◌+◌, ◌*◌, ◌≤◌, ◌<◌, ◌≡◌, Bool, length, Float, MatchResult}
 use Rattle.real.specs.Limit.{in_limit}
+use Rattle.refusal.specs.declared.Refusal.{Refusal}
 use Rattle.refusal.specs.Order.{accepted, refused}
 use Rattle.path.specs.declared.anchor.Anchor.{Anchor}
 use Rattle.path.specs.declared.shape.AnchorRef.{AnchorRef}
@@ -9,7 +11,6 @@ use Rattle.path.specs.Shape.{count_of, total, word_at, start}
 use Rattle.cut_calls.specs.PlainCut.{sub_at}
 use Rattle.recutting.specs.declared.plans.Plan.{Plan}
 use Rattle.recutting.specs.Stretch.{Accepts}
-use Rattle.session.specs.declared.answers.Edited.TheVariants.{Accepted}
 use Rattle.session.specs.Drawing.{Lent, drawn, view_in}
 use Rattle.session.specs.Edits.{Call, move, set_radius, edit_of}
 use Rattle.session.specs.Calls.{edit_verdict, call_answer}
@@ -52,12 +53,11 @@ pub record Stands (l : Lent) (s : ℕ) : Type 0 where
 -- a plan p of an edit that is accepted: what it answers, and the places that it recuts
 pub record Allowed (l : Lent) (kind : ℕ) (c : Call) (s at reach : ℕ) (p : Plan) : Type 0 where
   pub verdict : edit_verdict l kind (edit_of (drawn l kind) c) ≡ accepted
-  pub answer : Accepted p.count p.total ≡ call_answer l kind c
+  pub answer : Ok (record { recut = p.count; anchors = p.total }) ≡ call_answer l kind c
   pub stands : Stands l s
   pub index : at < (sub_at (edit_of (drawn l kind) c).made.shapes s).n
   pub places : Accepts (view_in (edit_of (drawn l kind) c).made s) (sub_at (edit_of (drawn l kind) c).made.shapes s) (record { at = at; reach = reach }) p
 
--- a plan: the refusal, or number 0
-abbrev pub Planned : Lent → ℕ → Call → ℕ → ℕ → ℕ → Plan → Type 0
-Planned l kind c s at reach p =
-    ((p.number ≡ 0 → ⊥) × (edit_verdict l kind (edit_of (drawn l kind) c) ≡ refused p.number p.place)) ⊎ ((p.number ≡ 0) × Allowed l kind c s at reach p)
+-- a plan, or the refusal
+abbrev pub Planned : Lent → ℕ → Call → ℕ → ℕ → ℕ → Result Plan Refusal → Type 0
+Planned l kind c s at reach r = MatchResult r (Allowed l kind c s at reach) (λ why. edit_verdict l kind (edit_of (drawn l kind) c) ≡ refused why)

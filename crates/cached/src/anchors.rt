@@ -8,6 +8,7 @@ use crate::planning::{AnchorEdit, plan_edit, reach_of};
 use cut::Window;
 use path::{Anchor, AnchorRef};
 use recutting::write_places;
+use refusal::Refusal;
 use session::Edited;
 
 // Six new numbers for an anchor; the places within three steps are recut.
@@ -20,24 +21,28 @@ pub fn move_anchor(
     flags: &mut [u32],
     at: AnchorRef,
     new: Anchor,
-) -> Edited
+) -> Result<Edited, Refusal>
     ensures { Does (lent shapes.now anchors.old radii.now numbers.old flags.old) kind (move at.subpath at.anchor new) result (lent shapes.now anchors.new radii.now numbers.new flags.new) }
 {
     let e = AnchorEdit::Move(new);
-    let plan = plan_edit(shapes, anchors, radii, kind, numbers, flags, at, e);
-    let number = plan.number;
-    if number != 0 {
-        return Edited::Refused(number, plan.place);
-    }
+    let plan = plan_edit(shapes, anchors, radii, kind, numbers, flags, at, e)?;
     let sub = sub_at(shapes, at.subpath);
-    let i = at.anchor;
     let w = Window {
-        at: i,
+        at: at.anchor,
         reach: reach_of(e),
     };
-    let made = plan.numbers;
-    let marks = plan.flags;
-    path::put_anchor(anchors, sub.first + i, new);
-    write_places(sub, w, plan.from, &made, &marks, numbers, flags);
-    Edited::Accepted(plan.count, plan.total)
+    path::put_anchor(anchors, sub.first + at.anchor, new);
+    write_places(
+        sub,
+        w,
+        plan.from,
+        &plan.numbers,
+        &plan.flags,
+        numbers,
+        flags,
+    );
+    Ok(Edited {
+        recut: plan.count,
+        anchors: plan.total,
+    })
 }

@@ -4,32 +4,31 @@ ghost use Rattle.cut_calls.specs.PlainCut.{sub_at};
 ghost use Rattle.edit.specs.Split.{has_segment};
 ghost use Rattle.cached.specs.Opening.{lent, opened_cached, ready_of};
 
-use call::Opened;
 use corner::CornerKind;
 use cut::Sub;
+use refusal::{Reason, Refusal};
 
-// 7 over the drawing's lists and the cache's, then 5 over the drawing.
+// 7 over the drawing's lists and the cache's, then 5 over the drawing: how many anchors it has.
 pub fn open_cached(
     shapes: &[u32],
     anchors: &[f64],
     radii: &[f64],
     numbers: &[f64],
     flags: &[u32],
-) -> Opened
+) -> Result<usize, Refusal>
     ensures { result ≡ opened_cached (lent shapes.now anchors.now radii.now numbers.now flags.now) }
 {
-    let size = cache::size_test(shapes, numbers, flags);
-    let Some(n) = size else {
-        return Opened::Refused(refusal::LISTS, 0);
-    };
+    if cache::size_test(shapes, numbers, flags).is_none() {
+        return Err(Reason::Lists.at(0));
+    }
     call::open_drawing(shapes, anchors, radii)
 }
 
-// A refusal's number and place, or how many anchors the drawing has and the kind of its cuts.
-#[derive(Clone, Copy)]
-pub enum Ready {
-    Refused(u32, usize),
-    Known(usize, CornerKind),
+// A drawing to be edited: how many anchors it has, and the kind of its cuts.
+#[derive(Clone, Copy, Debug, PartialEq, Eq, Hash)]
+pub struct Ready {
+    pub anchors: usize,
+    pub kind: CornerKind,
 }
 
 // The same for an edit: 5 also where the kind is not known, or the edit's own numbers are not `loose`ly within the limit.
@@ -41,22 +40,20 @@ pub fn open_edit(
     numbers: &[f64],
     flags: &[u32],
     loose: bool,
-) -> Ready
+) -> Result<Ready, Refusal>
     ensures { result ≡ ready_of (lent shapes.now anchors.now radii.now numbers.now flags.now) kind loose }
 {
-    let opened = open_cached(shapes, anchors, radii, numbers, flags);
-    match opened {
-        Opened::Refused(number, place) => Ready::Refused(number, place),
-        Opened::Anchors(n) => {
-            let Ok(way) = CornerKind::try_from(kind) else {
-                return Ready::Refused(refusal::ARGUMENTS, n);
-            };
-            if !loose {
-                return Ready::Refused(refusal::ARGUMENTS, n);
-            }
-            Ready::Known(n, way)
-        }
+    let n = open_cached(shapes, anchors, radii, numbers, flags)?;
+    let Ok(way) = CornerKind::try_from(kind) else {
+        return Err(Reason::Arguments.at(n));
+    };
+    if !loose {
+        return Err(Reason::Arguments.at(n));
     }
+    Ok(Ready {
+        anchors: n,
+        kind: way,
+    })
 }
 
 // Whether a segment starts at anchor a of subpath s.

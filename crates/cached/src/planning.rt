@@ -3,10 +3,11 @@ ghost use Rattle.std.specs.Prelude.{◌≡◌};
 ghost use Rattle.cached.specs.Opening.{lent};
 ghost use Rattle.cached.specs.Planning.{numbers_in, reach_of, anchor_then, radius_then, anchor_call, Planned};
 
-use crate::opening::{Ready, open_edit, sub_at};
+use crate::opening::{open_edit, sub_at};
 use cut::Window;
 use path::{Anchor, AnchorRef};
-use recutting::{Plan, plan_put, refuse};
+use recutting::{Plan, plan_put};
+use refusal::{Reason, Refusal};
 
 // Six new numbers, or a new radius.
 #[derive(Clone, Copy)]
@@ -64,26 +65,29 @@ pub fn plan_edit(
     flags: &[u32],
     at: AnchorRef,
     e: AnchorEdit,
-) -> Plan
+) -> Result<Plan, Refusal>
     ensures { Planned (lent shapes.now anchors.now radii.now numbers.now flags.now) kind (anchor_call at e) at.subpath at.anchor (reach_of e) result }
 {
-    let ready = open_edit(shapes, anchors, radii, kind, numbers, flags, numbers_in(e));
-    match ready {
-        Ready::Refused(number, place) => refuse(number, place),
-        Ready::Known(n, way) => {
-            let i = at.anchor;
-            if !path::has_anchor(shapes, at.subpath, i) {
-                return refuse(refusal::REFERENCE, 0);
-            }
-            let sub = sub_at(shapes, at.subpath);
-            let k = sub.first + i;
-            let w = Window {
-                at: i,
-                reach: reach_of(e),
-            };
-            let new = anchor_then(e, path::anchor_at(anchors, k));
-            let radius = radius_then(e, radii[k]);
-            plan_put(anchors, radii, way, sub, w, new, radius, n)
-        }
+    let ready = open_edit(shapes, anchors, radii, kind, numbers, flags, numbers_in(e))?;
+    if !path::has_anchor(shapes, at.subpath, at.anchor) {
+        return Err(Reason::Reference.at(0));
     }
+    let sub = sub_at(shapes, at.subpath);
+    let k = sub.first + at.anchor;
+    let w = Window {
+        at: at.anchor,
+        reach: reach_of(e),
+    };
+    let new = anchor_then(e, path::anchor_at(anchors, k));
+    let radius = radius_then(e, radii[k]);
+    plan_put(
+        anchors,
+        radii,
+        ready.kind,
+        sub,
+        w,
+        new,
+        radius,
+        ready.anchors,
+    )
 }

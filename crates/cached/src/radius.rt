@@ -8,6 +8,7 @@ use crate::planning::{AnchorEdit, plan_edit, reach_of};
 use cut::Window;
 use path::AnchorRef;
 use recutting::write_places;
+use refusal::Refusal;
 use session::Edited;
 
 // A new radius for an anchor; the places within two steps are recut.
@@ -20,24 +21,28 @@ pub fn set_radius(
     flags: &mut [u32],
     at: AnchorRef,
     radius: f64,
-) -> Edited
+) -> Result<Edited, Refusal>
     ensures { Does (lent shapes.now anchors.now radii.old numbers.old flags.old) kind (set_radius at.subpath at.anchor radius) result (lent shapes.now anchors.now radii.new numbers.new flags.new) }
 {
     let e = AnchorEdit::Radius(radius);
-    let plan = plan_edit(shapes, anchors, radii, kind, numbers, flags, at, e);
-    let number = plan.number;
-    if number != 0 {
-        return Edited::Refused(number, plan.place);
-    }
+    let plan = plan_edit(shapes, anchors, radii, kind, numbers, flags, at, e)?;
     let sub = sub_at(shapes, at.subpath);
-    let i = at.anchor;
     let w = Window {
-        at: i,
+        at: at.anchor,
         reach: reach_of(e),
     };
-    let made = plan.numbers;
-    let marks = plan.flags;
-    radii[sub.first + i] = radius;
-    write_places(sub, w, plan.from, &made, &marks, numbers, flags);
-    Edited::Accepted(plan.count, plan.total)
+    radii[sub.first + at.anchor] = radius;
+    write_places(
+        sub,
+        w,
+        plan.from,
+        &plan.numbers,
+        &plan.flags,
+        numbers,
+        flags,
+    );
+    Ok(Edited {
+        recut: plan.count,
+        anchors: plan.total,
+    })
 }

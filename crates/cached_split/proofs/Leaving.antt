@@ -6,6 +6,7 @@ use lib.ListN.{length}
 use lib.Ieee.{Float}
 use mathlib.Core.Bool.{Bool, true}
 use lib.Dec.{ltb}
+use Rattle.std.proofs.Common.{Ok}
 use Rattle.views.specs.View.{entry, overwrite}
 use Rattle.views.proofs.Bools.{and_right}
 use Rattle.path.specs.Flat.{anchor_at, anchor_numbers}
@@ -21,7 +22,6 @@ use Rattle.edit.proofs.Gaps.{length-gap, gap_past}
 use Rattle.edit.proofs.Segments.{segment_says, next_other}
 use Rattle.recutting.specs.declared.plans.Plan.{Plan}
 use Rattle.recutting.specs.Stretch.{Accepts}
-use Rattle.session.specs.declared.answers.Edited.TheVariants.{Accepted}
 use Rattle.session.specs.Drawing.{Lent, drawn, view_in}
 use Rattle.session.specs.Edits.{split, segment_start, segment_end, split_radii, split_at, edit_of}
 use Rattle.session.specs.Calls.{edited_lists}
@@ -134,7 +134,7 @@ module _ (l : Lent) (kind s a : ℕ) (t : Float) (p : Plan) (g : Granted l kind 
       → now.radii ≡ overwrite (total l.shapes + 1) (split_radii (entry l.radii) (start l.shapes s + a)) l.radii
       → now.numbers ≡ recut_numbers (view_in (split_at (drawn l kind) s a t) s) (start l.shapes s) 4 (a + 1) (gapped l.numbers (start l.shapes s + a) (total l.shapes) 12)
       → now.flags ≡ recut_flags (view_in (split_at (drawn l kind) s a t) s) (start l.shapes s) 4 (a + 1) (shifted_flags l.flags (start l.shapes s + a) (total l.shapes))
-      → Does l kind (split s a t) (Accepted p.count p.total) now
+      → Does l kind (split s a t) (Ok (record { recut = p.count; anchors = p.total })) now
   unfolding split_shapes segment_start segment_end
   split_done now sh an ra nu fl =
       let e0 = sh ∙ split_shapes_left_lem l kind s a t there seg small in

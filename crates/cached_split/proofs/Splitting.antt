@@ -7,20 +7,23 @@ use native.Mathlib.Omega.{arith}
 use lib.Dec.{ltb, eqb}
 use lib.ListN.{length}
 use lib.Ieee.{Float}
-use borrow.Author.Tests.{ltb-true, eq-eqb, ne_eqb, le-leb, lt-leb}
+use borrow.Author.Tests.{ltb-true, eq-eqb, ne_eqb, le-leb, lt-leb, lt-ltb}
 use Rattle.path.specs.Limit.{anchor_good, first_bad}
 use Rattle.views.specs.View.{entry}
-use Rattle.views.proofs.Bools.{and_left, and_right}
+use Rattle.views.proofs.Bools.{and_left, and_right, or_left, or_right}
 use Rattle.real.specs.Limit.{in_limit}
+use Rattle.refusal.specs.Reasons.{refusal_at}
+use Rattle.refusal.specs.declared.Refusal.{Refusal}
+use Rattle.refusal.specs.declared.Reason.TheVariants.{Reference, Output, Made, Capacity}
 use Rattle.refusal.specs.Order.{accepted, refused}
 use Rattle.path.specs.declared.anchor.Anchor.{Anchor}
-use Rattle.std.proofs.Common.{Option}
+use Rattle.std.proofs.Common.{Option, Ok}
 use Rattle.std.proofs.Common.{Some, None}
 use Rattle.path.specs.Flat.{anchor_at}
 use Rattle.path.specs.Shape.{count_of, closed_of, total, word_at, start, is_segment, next}
 use Rattle.path.proofs.Shapes.{total_in}
 use Rattle.path.proofs.Limits.{GoodBelow, first_is, none_is, good_cong, least_cong}
-use Rattle.corner.specs.declared.kind.CornerKind.{CornerKind}
+use Rattle.cut.specs.declared.subpath.Sub.{Sub}
 use Rattle.cut.specs.declared.subpath.Window.{Window}
 use Rattle.cut.specs.View.{View}
 use Rattle.cut.specs.Subpath.{view_of}
@@ -30,7 +33,6 @@ use Rattle.cut_calls.specs.PlainCut.{sub_at}
 use Rattle.edit.specs.declared.splitting.Halved.{Halved}
 use Rattle.edit.specs.Split.{halves, shifted, split_anchors, puts_within, split_shapes, has_segment}
 use Rattle.edit.proofs.Segments.{segment_says, next_other}
-use Rattle.session.specs.declared.answers.Edited.TheVariants.{Accepted}
 use Rattle.session.specs.Drawing.{Lent, drawn, view_in}
 use Rattle.cut.proofs.Steps.{next_in, next-round, segment_cases}
 use Rattle.real.specs.Operators.{0f}
@@ -42,7 +44,7 @@ use Rattle.session.proofs.Splits.{old_in, anchor-stood, radius-stood, split-star
 use Rattle.session.proofs.Outcomes.{out_reference, out_capacity, out_written, out_recut, out_room, out_pass, accepted_answer}
 use Rattle.recutting.specs.declared.plans.Plan.{Plan}
 use Rattle.recutting.specs.Stretch.{Accepts, places_found}
-use Rattle.cached.specs.declared.opening.Ready.TheVariants as ready
+use Rattle.cached.specs.declared.opening.Ready.{Ready}
 use Rattle.cached.specs.Opening.{ready_of}
 use Rattle.cached_split.specs.Splitting.{grown}
 use Rattle.cached.proofs.Openings.{ReadyFor, ready_says}
@@ -75,12 +77,12 @@ module _ (l : Lent) (kind s a : ℕ) (t : Float) where
   abbrev edit : Edit
   edit = edit_of (drawn l kind) (split s a t)
 
-  module _ (m : ℕ) (way : CornerKind) (is : ready_of l kind (in_limit t) ≡ ready.Known m way) where
-    r : ReadyFor l kind (in_limit t) m way
-    r = ready_says l kind (in_limit t) m way is
+  module _ (ready : Ready) (is : ready_of l kind (in_limit t) ≡ Ok ready) where
+    r : ReadyFor l kind (in_limit t) ready
+    r = ready_says l kind (in_limit t) ready is
 
     -- ---- 6
-    pub split_nowhere : has_segment l.shapes s a ≡ false → edit_verdict l kind (edit_of (drawn l kind) (split s a t)) ≡ refused 6 0
+    pub split_nowhere : has_segment l.shapes s a ≡ false → edit_verdict l kind (edit_of (drawn l kind) (split s a t)) ≡ refused (refusal_at Reference 0)
     unfolding edit_of drawn
     split_nowhere h = out_reference l kind edit r.fits r.good_places r.arguments h
 
@@ -107,12 +109,12 @@ module _ (l : Lent) (kind s a : ℕ) (t : Float) where
       small = omega (arith, total_in l.shapes s there, r.few)
 
       -- one anchor more
-      made-total : total (split_shapes l.shapes s) ≡ m + 1
+      made-total : total (split_shapes l.shapes s) ≡ ready.anchors + 1
       unfolding drawn
       made-total = split-total l.shapes s a there seg small ∙ ap (λ z. z + 1) (sym r.count)
 
       -- ---- 10
-      pub split_full : 512 ≤ m → edit_verdict l kind (edit_of (drawn l kind) (split s a t)) ≡ refused 10 0
+      pub split_full : 512 ≤ ready.anchors → edit_verdict l kind (edit_of (drawn l kind) (split s a t)) ≡ refused (refusal_at Capacity 0)
       unfolding edit_of split_at drawn
       split_full h = out_capacity l kind edit r.fits r.good_places r.arguments has (omega (arith, made-total))
 
@@ -120,15 +122,15 @@ module _ (l : Lent) (kind s a : ℕ) (t : Float) where
       pub record Placed : Type 0 where
         pub there : s < length l.shapes
         pub words : length l.shapes ≤ 32
-        pub few : m ≤ 512
+        pub few : ready.anchors ≤ 512
         pub inside : a < count_of (word_at l.shapes s)
         pub next-inside : next (count_of (word_at l.shapes s)) a < count_of (word_at l.shapes s)
         pub other : a ≡ next (count_of (word_at l.shapes s)) a → ⊥
-        pub path : start l.shapes s + count_of (word_at l.shapes s) ≤ m
-        pub anchors : m * 6 ≤ length l.anchors
-        pub radii : m ≤ length l.radii
-        pub numbers : m * 12 ≤ length l.numbers
-        pub flags : m ≤ length l.flags
+        pub path : start l.shapes s + count_of (word_at l.shapes s) ≤ ready.anchors
+        pub anchors : ready.anchors * 6 ≤ length l.anchors
+        pub radii : ready.anchors ≤ length l.radii
+        pub numbers : ready.anchors * 12 ≤ length l.numbers
+        pub flags : ready.anchors ≤ length l.flags
 
       pub placed : Placed
       unfolding lengths_of
@@ -156,8 +158,44 @@ module _ (l : Lent) (kind s a : ℕ) (t : Float) where
             flags = omega arith;
           }
 
+      -- the same of a subpath that was read, and the ends of its segment
+      pub record Ended (sub : Sub) : Type 0 where
+        pub index : a < sub.n
+        pub next-index : next sub.n a < sub.n
+        pub path : sub.first + sub.n ≤ ready.anchors
+        pub from : sub.first + a < ready.anchors
+        pub to : sub.first + next sub.n a < ready.anchors
+        pub apart : sub.first + a ≡ sub.first + next sub.n a → ⊥
+        pub leaving : (sub.closed || ltb (a + 1 + 1) (sub.n + 1)) ≡ true
+        pub from-is : sub.first + a ≡ segment_start l.shapes s a
+        pub to-is : sub.first + next sub.n a ≡ segment_end l.shapes s a
+
+      ended_here : Ended (sub_at l.shapes s)
+      unfolding sub_at segment_start segment_end
+      ended_here =
+          let p = placed in
+          let x = p.inside in
+          let y = p.next-inside in
+          let z = p.path in
+          record {
+            index = x;
+            next-index = y;
+            path = z;
+            from = omega arith;
+            to = omega arith;
+            apart = λ q. p.other (omega arith);
+            leaving = ⊎_elim (λ g. or_right round (ltb (a + 1 + 1) (size + 1)) (lt-ltb (a + 1 + 1) (size + 1) (let h = g in omega arith)))
+                (λ g. or_left round (ltb (a + 1 + 1) (size + 1)) g.0)
+                (segment_cases size round a seg);
+            from-is = refl;
+            to-is = refl;
+          }
+
+      pub ended : (sub : Sub) → sub ≡ sub_at l.shapes s → Ended sub
+      ended sub e = rw e ended_here
+
       -- ---- 9, of the anchors put
-      module _ (few : m < 512) where
+      module _ (few : ready.anchors < 512) where
         abbrev from : ℕ
         from = segment_start l.shapes s a
 
@@ -179,21 +217,36 @@ module _ (l : Lent) (kind s a : ℕ) (t : Float) where
             go false false true = refl
             go false false false = refl
 
+        -- as the code comes to it: the ends at places from and from j of a subpath that was read
+        module _ (sub : Sub) (sub-is : sub ≡ sub_at l.shapes s) (j : ℕ) (j-is : j ≡ next sub.n a)
+            (put : Halved) (put-is : put ≡ halves (anchor_at l.anchors (sub.first + a)) (anchor_at l.anchors (sub.first + j)) t) where
+          j_end : sub.first + j ≡ segment_end l.shapes s a
+          j_end = ap (λ z. sub.first + z) j-is ∙ (ended sub sub-is).to-is
+
+          pub put_found : (o : Option ℕ) → ((n : ℕ) → sub.first + a < n → sub.first + j < n → o ≡ first_bad (puts_within put (sub.first + a) (shifted (sub.first + a) (sub.first + j))) (n + 1))
+              → o ≡ puts_found (anchor_at l.anchors) (segment_start l.shapes s a) (segment_end l.shapes s a) t (ready.anchors + 1)
+          unfolding puts_found
+          put_found o f =
+              let d = ended sub sub-is in
+              let x = d.from in
+              let y = d.to in
+              rw (← d.from-is, ← j_end, ← put-is) (f ready.anchors x (omega (arith, j-is)))
+
         few_made : total (split_shapes l.shapes s) ≤ 512
         few_made = omega (arith, made-total)
 
-        module _ (k : ℕ) (found : puts_found (anchor_at l.anchors) (segment_start l.shapes s a) (segment_end l.shapes s a) t (m + 1) ≡ Some k) where
-          pub split-put_bad : edit_verdict l kind (edit_of (drawn l kind) (split s a t)) ≡ refused 9 k
+        module _ (k : ℕ) (found : puts_found (anchor_at l.anchors) (segment_start l.shapes s a) (segment_end l.shapes s a) t (ready.anchors + 1) ≡ Some k) where
+          pub split-put_bad : edit_verdict l kind (edit_of (drawn l kind) (split s a t)) ≡ refused (refusal_at Made k)
           unfolding puts_found edit_of split_at drawn
           split-put_bad =
-              let g = least_cong (puts_within h from (shifted from to)) (written_good edit) (m + 1) (λ j i. written_same j) k ((first_is (puts_within h from (shifted from to)) (m + 1) k).0 found) in
+              let g = least_cong (puts_within h from (shifted from to)) (written_good edit) (ready.anchors + 1) (λ j i. written_same j) k ((first_is (puts_within h from (shifted from to)) (ready.anchors + 1) k).0 found) in
               out_written l kind edit r.fits r.good_places r.arguments has few_made k (rw made-total g)
 
-        module _ (found : puts_found (anchor_at l.anchors) (segment_start l.shapes s a) (segment_end l.shapes s a) t (m + 1) ≡ None) where
+        module _ (found : puts_found (anchor_at l.anchors) (segment_start l.shapes s a) (segment_end l.shapes s a) t (ready.anchors + 1) ≡ None) where
           written : GoodBelow (written_good (edit_of (drawn l kind) (split s a t))) (total (split_shapes l.shapes s))
           unfolding puts_found
           written =
-              rw made-total (good_cong (puts_within h from (shifted from to)) (written_good edit) (m + 1) (λ j i. written_same j) ((none_is (puts_within h from (shifted from to)) (m + 1)).0 found))
+              rw made-total (good_cong (puts_within h from (shifted from to)) (written_good edit) (ready.anchors + 1) (λ j i. written_same j) ((none_is (puts_within h from (shifted from to)) (ready.anchors + 1)).0 found))
 
           -- ---- the subpath as the split leaves it
           made_there : s < length (split_shapes l.shapes s)
@@ -256,7 +309,7 @@ module _ (l : Lent) (kind s a : ℕ) (t : Float) where
           unfolding segment_start
           from_is = refl
 
-          pub halving : Halving (view_in (split_at (drawn l kind) s a t) s) way (sub_at l.shapes s) a
+          pub halving : Halving (view_in (split_at (drawn l kind) s a t) s) ready.kind (sub_at l.shapes s) a
               (halves (anchor_at l.anchors (segment_start l.shapes s a)) (anchor_at l.anchors (segment_end l.shapes s a)) t) l.anchors l.radii
           unfolding view_in view_of split_at drawn sub_at
           halving =
@@ -276,6 +329,10 @@ module _ (l : Lent) (kind s a : ℕ) (t : Float) where
                 kinds = λ k. sym r.kind-is;
               }
 
+          pub halving_at : (sub : Sub) (e : sub ≡ sub_at l.shapes s) (j : ℕ) → j ≡ next sub.n a → (put : Halved) → put ≡ halves (anchor_at l.anchors (sub.first + a)) (anchor_at l.anchors (sub.first + j)) t
+              → Halving (view_in (split_at (drawn l kind) s a t) s) ready.kind sub a put l.anchors l.radii
+          halving_at sub e j q put h = rw (h, (ended sub e).from-is, j_end sub e j q put h, e) halving
+
           recuts : (k : ℕ) → (edit_of (drawn l kind) (split s a t)).recuts k ≡ reached (view_in (split_at (drawn l kind) s a t) s) (start (split_shapes l.shapes s) s) 4 (a + 1) k
           unfolding edit_of drawn
           recuts k = ap (λ f. reached (view_in (split_at (drawn l kind) s a t) s) f 4 (a + 1) k) (sym made-start)
@@ -283,33 +340,33 @@ module _ (l : Lent) (kind s a : ℕ) (t : Float) where
           abbrev win : Window
           win = record { at = a + 1; reach = 4 }
 
-          module _ (p : Plan) where
-            -- ---- 9, of the places recut
-            pub split-recut_bad : (p.number ≡ 9) × (places_found (view_in (split_at (drawn l kind) s a t) s) (grown (sub_at l.shapes s)) (record { at = a + 1; reach = 4 }) ≡ Some p.place)
-                → edit_verdict l kind (edit_of (drawn l kind) (split s a t)) ≡ refused p.number p.place
-            unfolding edit_of split_at drawn
-            split-recut_bad h =
-                out_recut l kind edit r.fits r.good_places r.arguments has few_made written p.place
-                (found_bad edit s (a + 1) 4 made_there recuts p.place (ap (λ z. places_found v z win) sub-made ∙ h.1))
-                ∙ ap (λ z. refused z p.place) (sym h.0)
+          -- ---- 9, of the places recut
+          pub split-recut_bad : (why : Refusal) → why.reason ≡ Made → places_found (view_in (split_at (drawn l kind) s a t) s) (grown (sub_at l.shapes s)) (record { at = a + 1; reach = 4 }) ≡ Some why.place
+              → edit_verdict l kind (edit_of (drawn l kind) (split s a t)) ≡ refused why
+          unfolding edit_of split_at drawn
+          split-recut_bad why n h =
+              out_recut l kind edit r.fits r.good_places r.arguments has few_made written why.place
+              (found_bad edit s (a + 1) 4 made_there recuts why.place (ap (λ z. places_found v z win) sub-made ∙ h))
+              ∙ ap (λ z. refused (refusal_at z why.place)) (sym n)
 
+          module _ (p : Plan) where
             module _ (acc : Accepts (view_in (split_at (drawn l kind) s a t) s) (grown (sub_at l.shapes s)) (record { at = a + 1; reach = 4 }) p) where
               recut : GoodBelow (recut_good (edit_of (drawn l kind) (split s a t))) (total (split_shapes l.shapes s))
               unfolding edit_of split_at drawn
               recut = found_good edit s (a + 1) 4 made_there recuts (ap (λ z. places_found v z win) sub-made ∙ acc.none)
 
               -- ---- 8
-              pub split-short : long_for (lengths_of l) (m + 1) ≡ false → edit_verdict l kind (edit_of (drawn l kind) (split s a t)) ≡ refused 8 0
+              pub split-short : long_for (lengths_of l) (ready.anchors + 1) ≡ false → edit_verdict l kind (edit_of (drawn l kind) (split s a t)) ≡ refused (refusal_at Output 0)
               unfolding edit_of split_at drawn
-              split-short f = out_room l kind edit r.fits r.good_places r.arguments has few_made written recut (rw made-total (room-same l (m + 1) ∙ f))
+              split-short f = out_room l kind edit r.fits r.good_places r.arguments has few_made written recut (rw made-total (room-same l (ready.anchors + 1) ∙ f))
 
               -- ---- accepted
-              module _ (whole : p.total ≡ m + 1) (fits : long_for (lengths_of l) (m + 1) ≡ true) where
+              module _ (whole : p.total ≡ ready.anchors + 1) (fits : long_for (lengths_of l) (ready.anchors + 1) ≡ true) where
                 accepts : edit_verdict l kind (edit_of (drawn l kind) (split s a t)) ≡ accepted
                 unfolding edit_of split_at drawn
-                accepts = out_pass l kind edit r.fits r.good_places r.arguments has few_made written recut (rw made-total (room-same l (m + 1) ∙ fits))
+                accepts = out_pass l kind edit r.fits r.good_places r.arguments has few_made written recut (rw made-total (room-same l (ready.anchors + 1) ∙ fits))
 
-                answer : Accepted p.count p.total ≡ call_answer l kind (split s a t)
+                answer : Ok (record { recut = p.count; anchors = p.total }) ≡ call_answer l kind (split s a t)
                 unfolding recut_count edit_of split_at drawn sub_at
                 answer = cc (acc.count, whole, made-total) ∙ accepted_answer l kind (split s a t) accepts r.few has
 

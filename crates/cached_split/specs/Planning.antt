@@ -1,7 +1,9 @@
 -- The plan of a split: what it rests on, and what it comes to. Assumes nothing.
-use Rattle.std.specs.Prelude.{ℕ, ◌+◌, ◌<◌, ◌≡◌, ◌⊎◌, true, List, Float}
+use Rattle.std.proofs.Common.{Result}
+use Rattle.std.specs.Prelude.{ℕ, ◌+◌, ◌<◌, ◌≡◌, true, List, Float, MatchResult}
 use Rattle.views.specs.View.{entry}
 use Rattle.real.specs.Operators.{0f}
+use Rattle.refusal.specs.declared.Refusal.{Refusal}
 use Rattle.refusal.specs.Order.{refused}
 use Rattle.path.specs.Flat.{anchor_at}
 use Rattle.path.specs.Shape.{total, next}
@@ -31,7 +33,7 @@ pub record Halving (v : View) (kind : CornerKind) (sub : Sub) (a : ℕ) (h : Hal
   pub kept : (k : ℕ) → k < sub.n + 1 → (k ≡ a + 1 → ⊥) → v.radius k ≡ entry radii (sub.first + old a k)
   pub kinds : (k : ℕ) → kind ≡ v.kind k
 
--- a plan of a split: the refusal, or number 0, with the segment there and room for one anchor more
+-- a plan of a split: the segment is there, with room for one anchor more
 pub record Granted (l : Lent) (kind s a : ℕ) (t : Float) (p : Plan) : Type 0 where
   pub allowed : Allowed l kind (split s a t) s (a + 1) 4 p
   pub segment : has_segment l.shapes s a ≡ true
@@ -39,6 +41,6 @@ pub record Granted (l : Lent) (kind s a : ℕ) (t : Float) (p : Plan) : Type 0 w
   pub few : total l.shapes < 512
   pub room : long_for (lengths_of l) (total l.shapes + 1) ≡ true
 
-abbrev pub SplitPlanned : Lent → ℕ → ℕ → ℕ → Float → Plan → Type 0
-SplitPlanned l kind s a t p =
-    ((p.number ≡ 0 → ⊥) × (edit_verdict l kind (edit_of (drawn l kind) (split s a t)) ≡ refused p.number p.place)) ⊎ ((p.number ≡ 0) × Granted l kind s a t p)
+-- a plan, or the refusal
+abbrev pub SplitPlanned : Lent → ℕ → ℕ → ℕ → Float → Result Plan Refusal → Type 0
+SplitPlanned l kind s a t r = MatchResult r (Granted l kind s a t) (λ why. edit_verdict l kind (edit_of (drawn l kind) (split s a t)) ≡ refused why)

@@ -1,5 +1,5 @@
 // The cached edit that splits a segment, on a lent drawing and its lent cut cache, in place.
-#![tactic(auto)]
+#![tactic(auto, unfolding(session::specs::Model::long_for))]
 
 mod making;
 mod planning;

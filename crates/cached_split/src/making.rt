@@ -50,11 +50,9 @@ pub fn grown(sub: Sub) -> Sub
     requires { sub.n ≤ 1024 }
     ensures { result ≡ grown sub }
 {
-    let first = sub.first;
-    let closed = sub.closed;
     Sub {
-        first: first,
+        first: sub.first,
         n: sub.n + 1,
-        closed: closed,
+        closed: sub.closed,
     }
 }

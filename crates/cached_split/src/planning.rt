@@ -1,5 +1,5 @@
 // The split of a segment decided on lists that are only read: 7, 5, 6, 10, 9, 8.
-ghost use Rattle.std.specs.Prelude.{◌≡◌, true, ◌||◌, ◌+◌, ◌*◌, ◌≤◌, ◌<◌, ltb, length};
+ghost use Rattle.std.specs.Prelude.{◌≡◌, IfOk, true, ◌||◌, ◌+◌, ◌*◌, ◌≤◌, ◌<◌, ltb, length};
 ghost use Rattle.cut.specs.View.{View};
 ghost use Rattle.recutting.specs.Stretch.{Decides};
 ghost use Rattle.cached.specs.Opening.{lent};
@@ -13,7 +13,8 @@ use corner::CornerKind;
 use cut::{Sub, Window};
 use edit::Halved;
 use path::AnchorRef;
-use recutting::{Plan, gather, plan_recut, refuse, rolled, stretch_of};
+use recutting::{Plan, gather, plan_recut, rolled, stretch_of};
+use refusal::{Reason, Refusal};
 
 // The plan of a subpath with an anchor put in after index a: the three of the segment split are put in its stretch.
 fn plan_halves(
@@ -24,10 +25,10 @@ fn plan_halves(
     a: usize,
     h: Halved,
     total: usize,
-) -> Plan
+) -> Result<Plan, Refusal>
     requires n_bound { (sub.first + sub.n < 1024) × (a < sub.n) × ((sub.closed || ltb (a + 1 + 1) (sub.n + 1)) ≡ true) }
     requires n_in_bounds { ((sub.first + sub.n) * 6 ≤ length anchors.now) × (sub.first + sub.n ≤ length radii.now) }
-    ensures { (result.number ≡ 0 → result.total ≡ total) × ((v : View) → Halving v kind sub a h anchors.now radii.now → Decides v (grown sub) (record { at = a + 1; reach = 4 }) result) }
+    ensures { IfOk result (λ p. p.total ≡ total) × ((v : View) → Halving v kind sub a h anchors.now radii.now → Decides v (grown sub) (record { at = a + 1; reach = 4 }) result) }
 {
     let more = grown(sub);
     let n = more.n;
@@ -35,28 +36,23 @@ fn plan_halves(
     let w = Window { at: at, reach: 4 };
     let s = stretch_of(more, w);
     let g = gather(anchors, radii, more, s, a);
-    let from = s.from;
     let mid = s.mid;
-    let start = rolled(n, from, a);
-    let end = rolled(n, from, path::next(n, at));
-    let left = h.left;
-    let middle = h.middle;
-    let right = h.right;
+    let start = rolled(n, s.from, a);
+    let end = rolled(n, s.from, path::next(n, at));
     let mut held = g.anchors;
     let mut rounds = g.radii;
-    path::put_anchor(&mut held, start, left);
-    path::put_anchor(&mut held, mid, middle);
-    path::put_anchor(&mut held, end, right);
+    path::put_anchor(&mut held, start, h.left);
+    path::put_anchor(&mut held, mid, h.middle);
+    path::put_anchor(&mut held, end, h.right);
     rounds[mid] = 0.0;
     plan_recut(&held, &rounds, kind, more, w, s, total)
 }
 
-// What 7 and 5 leave: the kind, by its number and as it is, and how many anchors there are.
+// What 7 and 5 leave, and the number of the kind, which the contracts name.
 #[derive(Clone, Copy)]
 struct Tested {
     kind: u32,
-    way: CornerKind,
-    n: usize,
+    ready: Ready,
 }
 
 // Of a segment that is there, with room for one anchor more: 9, 8.
@@ -69,30 +65,25 @@ fn plan_begun(
     at: AnchorRef,
     t: f64,
     d: Tested,
-) -> Plan
-    requires { Begun (lent shapes.now anchors.now radii.now numbers.now flags.now) d.kind at.subpath at.anchor t d.n d.way }
+) -> Result<Plan, Refusal>
+    requires { Begun (lent shapes.now anchors.now radii.now numbers.now flags.now) d.kind at.subpath at.anchor t d.ready }
     ensures { SplitPlanned (lent shapes.now anchors.now radii.now numbers.now flags.now) d.kind at.subpath at.anchor t result }
 {
     let a = at.anchor;
-    let way = d.way;
-    let more = d.n + 1;
+    let ready = d.ready;
     let sub = sub_at(shapes, at.subpath);
     let from = sub.first + a;
     let to = sub.first + path::next(sub.n, a);
     let h = halved(anchors, from, to, t);
-    let bad = first_put(h, from, to);
-    if let Some(k) = bad {
-        return refuse(refusal::RESULT, k);
+    if let Some(k) = first_put(h, from, to) {
+        return Err(Reason::Made.at(k));
     }
-    let plan = plan_halves(anchors, radii, way, sub, a, h, more);
-    let number = plan.number;
-    if number != 0 {
-        return plan;
-    }
+    let more = ready.anchors + 1;
+    let plan = plan_halves(anchors, radii, ready.kind, sub, a, h, more)?;
     if !has_room(anchors, radii, numbers, flags, more) {
-        return refuse(refusal::OUTPUT, 0);
+        return Err(Reason::Output.at(0));
     }
-    plan
+    Ok(plan)
 }
 
 // Decides whether the segment that starts at an anchor may be split at t, and recuts the places within four steps of the new anchor.
@@ -105,26 +96,32 @@ pub fn plan_split(
     flags: &[u32],
     at: AnchorRef,
     t: f64,
-) -> Plan
+) -> Result<Plan, Refusal>
     ensures { SplitPlanned (lent shapes.now anchors.now radii.now numbers.now flags.now) kind at.subpath at.anchor t result }
 {
-    let inside = real::in_limit(t);
-    let ready = open_edit(shapes, anchors, radii, kind, numbers, flags, inside);
-    match ready {
-        Ready::Refused(number, place) => refuse(number, place),
-        Ready::Known(n, way) => {
-            if !has_segment(shapes, at.subpath, at.anchor) {
-                return refuse(refusal::REFERENCE, 0);
-            }
-            if n >= 512 {
-                return refuse(refusal::CAPACITY, 0);
-            }
-            let d = Tested {
-                kind: kind,
-                way: way,
-                n: n,
-            };
-            plan_begun(shapes, anchors, radii, numbers, flags, at, t, d)
-        }
+    let ready = open_edit(
+        shapes,
+        anchors,
+        radii,
+        kind,
+        numbers,
+        flags,
+        real::in_limit(t),
+    )?;
+    if !has_segment(shapes, at.subpath, at.anchor) {
+        return Err(Reason::Reference.at(0));
     }
+    if ready.anchors >= 512 {
+        return Err(Reason::Capacity.at(0));
+    }
+    plan_begun(
+        shapes,
+        anchors,
+        radii,
+        numbers,
+        flags,
+        at,
+        t,
+        Tested { kind, ready },
+    )
 }

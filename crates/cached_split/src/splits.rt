@@ -10,6 +10,7 @@ use cached::sub_at;
 use cut::Window;
 use path::AnchorRef;
 use recutting::write_places;
+use refusal::Refusal;
 use session::Edited;
 
 // The segment that starts at an anchor cut in two, at t; the places within four steps of the new anchor are recut.
@@ -22,29 +23,33 @@ pub fn split_segment(
     flags: &mut [u32],
     at: AnchorRef,
     t: f64,
-) -> Edited
+) -> Result<Edited, Refusal>
     ensures { Does (lent shapes.old anchors.old radii.old numbers.old flags.old) kind (split at.subpath at.anchor t) result (lent shapes.new anchors.new radii.new numbers.new flags.new) }
 {
-    let plan = plan_split(shapes, anchors, radii, kind, numbers, flags, at, t);
-    let number = plan.number;
-    if number != 0 {
-        return Edited::Refused(number, plan.place);
-    }
+    let plan = plan_split(shapes, anchors, radii, kind, numbers, flags, at, t)?;
     let s = at.subpath;
     let a = at.anchor;
     let sub = sub_at(shapes, s);
-    let more = grown(sub);
     let n = plan.total - 1;
     let w = Window {
         at: a + 1,
         reach: 4,
     };
-    let made = plan.numbers;
-    let marks = plan.flags;
     let from = sub.first + a;
     let to = sub.first + path::next(sub.n, a);
     write_drawing(shapes, anchors, radii, s, from, to, n, t);
     shift_cache(numbers, flags, from, n);
-    write_places(more, w, plan.from, &made, &marks, numbers, flags);
-    Edited::Accepted(plan.count, plan.total)
+    write_places(
+        grown(sub),
+        w,
+        plan.from,
+        &plan.numbers,
+        &plan.flags,
+        numbers,
+        flags,
+    );
+    Ok(Edited {
+        recut: plan.count,
+        anchors: plan.total,
+    })
 }

@@ -16,16 +16,7 @@ pub fn has_room(anchors: &[f64], radii: &[f64], numbers: &[f64], flags: &[u32], 
     requires { n ≤ 1024 }
     ensures { result ≡ long_for (record { anchors = length anchors.now; radii = length radii.now; numbers = length numbers.now; flags = length flags.now }) n }
 {
-    if anchors.len() < n * 6 {
-        return false;
-    }
-    if radii.len() < n {
-        return false;
-    }
-    if numbers.len() < n * 12 {
-        return false;
-    }
-    n <= flags.len()
+    n * 6 <= anchors.len() && n <= radii.len() && n * 12 <= numbers.len() && n <= flags.len()
 }
 
 // Moves the flags of the places after a, of n, up by one, the last one first; the new place gets a's.

@@ -9,11 +9,16 @@ use lib.Dec.{leb}
 use lib.ListN.{length, get_or}
 use lib.Ieee.{Float, nan}
 use borrow.Author.Tests.{le-leb, lt-leb}
+use Rattle.std.proofs.Common.{Ok, Err}
 use Rattle.views.specs.View.{entry, overwrite}
 use Rattle.views.proofs.Bools.{and_false}
 use Rattle.views.proofs.Laws.{at_overwrite, overwrite_cong}
 use Rattle.views.proofs.Searches.{all_cong}
 use Rattle.real.specs.Limit.{in_limit}
+use Rattle.refusal.proofs.Verdicts.{answers_ok, answers_err}
+use Rattle.refusal.specs.Reasons.{refusal_at}
+use Rattle.refusal.specs.declared.Refusal.{Refusal}
+use Rattle.refusal.specs.declared.Reason.TheVariants.{Output, Made}
 use Rattle.refusal.specs.Order.{passes, holds, judge, Verdict, accepted, refused}
 use Rattle.path.specs.declared.anchor.Anchor.{Anchor}
 use Rattle.path.specs.Shape.{total}
@@ -21,7 +26,6 @@ use Rattle.path.specs.Flat.{listed}
 use Rattle.path.specs.Limit.{anchor_in, anchor_good}
 use Rattle.path.proofs.Limits.{GoodBelow, Least, search_to}
 use Rattle.path.proofs.Places.{anchor-number}
-use Rattle.call.specs.declared.answers.Outline.TheVariants.{Refused, Accepted}
 use Rattle.call.specs.Tests.{places, outline_in, outline_limit, room_for}
 use Rattle.call.specs.Answers.{outline_answer, list_left, anchors_left, handed_verdict, handed_answer, handed_shapes, handed_anchors}
 use Rattle.call.proofs.Openings.{places_fail, places_pass}
@@ -41,15 +45,15 @@ module _ (m count : ℕ) (to_shapes : List ℕ) (to : List Float) where
   few_numbers h = rw (lt-leb _ _ h) (and_false (leb m (length to_shapes)))
 
 -- ---- what a verdict answers and leaves
-pub outline-refused : {v : Verdict} {n k : ℕ} (m count : ℕ) → v ≡ refused n k → Refused n k ≡ outline_answer v m count
+pub outline-refused : {v : Verdict} {why : Refusal} (m count : ℕ) → v ≡ refused why → Err why ≡ outline_answer v m count
 unfolding outline_answer
-outline-refused m count e = rw e
+outline-refused m count e = answers_err _ e
 
-pub outline_accepted : {v : Verdict} (m count : ℕ) → v ≡ accepted → Accepted m count ≡ outline_answer v m count
+pub outline_accepted : {v : Verdict} (m count : ℕ) → v ≡ accepted → Ok (record { subpaths = m; anchors = count }) ≡ outline_answer v m count
 unfolding outline_answer
-outline_accepted m count e = rw e
+outline_accepted m count e = answers_ok _ e
 
-pub list_kept : {A : Type 0} {v : Verdict} {n k : ℕ} (m : ℕ) (f : ℕ → A) (xs : List A) → v ≡ refused n k → xs ≡ list_left v m f xs
+pub list_kept : {A : Type 0} {v : Verdict} {why : Refusal} (m : ℕ) (f : ℕ → A) (xs : List A) → v ≡ refused why → xs ≡ list_left v m f xs
 unfolding list_left
 list_kept m f xs e = rw e
 
@@ -57,7 +61,7 @@ pub list_written : {A : Type 0} {v : Verdict} (m : ℕ) (f : ℕ → A) (xs : Li
 unfolding list_left
 list_written m f xs e = rw e
 
-pub anchors_kept : {v : Verdict} {n k : ℕ} (ps : List Anchor) (xs : List Float) → v ≡ refused n k → xs ≡ anchors_left v ps xs
+pub anchors_kept : {v : Verdict} {why : Refusal} (ps : List Anchor) (xs : List Float) → v ≡ refused why → xs ≡ anchors_left v ps xs
 unfolding anchors_left
 anchors_kept ps xs e = rw e
 
@@ -67,12 +71,12 @@ anchors_written ps xs e = rw e
 
 -- ---- a path in scratch lists: a number beyond the limit, a list too short, neither
 module _ (words : List ℕ) (made : List Float) (to_shapes : List ℕ) (to : List Float) where
-  pub handed_bad : (k : ℕ) → Least (anchor_in made) (total words) k → handed_verdict words made to_shapes to ≡ refused 9 k
+  pub handed_bad : (k : ℕ) → Least (anchor_in made) (total words) k → handed_verdict words made to_shapes to ≡ refused (refusal_at Made k)
   unfolding handed_verdict judge
   handed_bad k l = rw (places_fail (anchor_in made) (total words) passes k l)
 
   module _ (good : GoodBelow (anchor_in made) (total words)) where
-    pub handed-short : room_for (length words) (total words) to_shapes to ≡ false → handed_verdict words made to_shapes to ≡ refused 8 0
+    pub handed-short : room_for (length words) (total words) to_shapes to ≡ false → handed_verdict words made to_shapes to ≡ refused (refusal_at Output 0)
     unfolding handed_verdict judge holds
     handed-short r = rw (places_pass (anchor_in made) (total words) passes good, r)
 
@@ -81,13 +85,13 @@ module _ (words : List ℕ) (made : List Float) (to_shapes : List ℕ) (to : Lis
     handed-all r = rw (places_pass (anchor_in made) (total words) passes good, r)
 
   -- what is answered and left
-  module _ (n k : ℕ) (e : handed_verdict words made to_shapes to ≡ refused n k) where
-    pub handed-refused : (Refused n k ≡ handed_answer words made to_shapes to) × (to_shapes ≡ handed_shapes words made to_shapes to) × (to ≡ handed_anchors words made to_shapes to)
+  module _ (why : Refusal) (e : handed_verdict words made to_shapes to ≡ refused why) where
+    pub handed-refused : (Err why ≡ handed_answer words made to_shapes to) × (to_shapes ≡ handed_shapes words made to_shapes to) × (to ≡ handed_anchors words made to_shapes to)
     unfolding handed_answer handed_shapes handed_anchors
     handed-refused = (outline-refused _ _ e, list_kept _ _ _ e, list_kept _ _ _ e)
 
   module _ (e : handed_verdict words made to_shapes to ≡ accepted) where
-    pub handed_accepted : (Accepted (length words) (total words) ≡ handed_answer words made to_shapes to)
+    pub handed_accepted : (Ok (record { subpaths = length words; anchors = total words }) ≡ handed_answer words made to_shapes to)
         × (overwrite (length words) (λ i. get_or words i 0) to_shapes ≡ handed_shapes words made to_shapes to)
         × (overwrite (total words * 6) (entry made) to ≡ handed_anchors words made to_shapes to)
     unfolding handed_answer handed_shapes handed_anchors
@@ -115,7 +119,7 @@ module _ (ps : List Anchor) (xs : List Float) (long : length ps * 6 ≤ length x
       (search_to (anchor_in (listed ps xs)) (length ps))
 
   module _ (words : List ℕ) (made : List Float) (to_shapes : List ℕ) (to : List Float) (e : made ≡ listed ps xs) (n : total words ≡ length ps) where
-    pub listed-verdict : handed_verdict words made to_shapes to ≡ judge (outline_limit ps) 9 (judge (holds (room_for (length words) (length ps) to_shapes to) 0) 8 accepted)
+    pub listed-verdict : handed_verdict words made to_shapes to ≡ judge (outline_limit ps) Made (judge (holds (room_for (length words) (length ps) to_shapes to) 0) Output accepted)
     unfolding handed_verdict
     listed-verdict = rw (e, n, listed_limit)
 
@@ -124,5 +128,5 @@ module _ (ps : List Anchor) (xs : List Float) (long : length ps * 6 ≤ length x
     listed_anchors = go (handed_verdict words made to_shapes to)
       where
         go : (v : Verdict) → list_left v (total words * 6) (entry made) to ≡ anchors_left v ps to
-        go (refused c k) = refl
+        go (refused why) = refl
         go accepted = rw (e, n) (overwrite_cong _ _ _ to (λ i l. at_overwrite nan _ _ xs i l (omega arith)))

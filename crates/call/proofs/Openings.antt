@@ -11,16 +11,18 @@ use lib.ListN.{length}
 use lib.Ieee.{Float}
 use borrow.Author.Tests.{leb-true, le-leb, lt-leb, lt-ltb, le-ltb}
 use Rattle.views.proofs.Searches.{first_all, first_at}
-use Rattle.refusal.specs.Order.{Test, passes, fails, holds, judge, Verdict, accepted, refused}
-use Rattle.refusal.proofs.Verdicts.{holds_true}
-use Rattle.std.proofs.Common.{None}
+use Rattle.refusal.specs.Reasons.{refusal_at}
+use Rattle.refusal.specs.declared.Refusal.{Refusal}
+use Rattle.refusal.specs.declared.Reason.TheVariants.{Arguments, Lists}
+use Rattle.refusal.specs.Order.{Test, passes, fails, holds, judge, Verdict, accepted, refused, answering}
+use Rattle.refusal.proofs.Verdicts.{holds_true, refusing, answers_ok, answers_err, ok_says, err_says}
+use Rattle.std.proofs.Common.{None, Ok, Err}
 use Rattle.std.proofs.Common.{Some, None}
 use Rattle.path.specs.Shape.{total, sized_of}
 use Rattle.path.specs.Limit.{anchor_in, place_in}
 use Rattle.path.proofs.Shapes.{Fits}
 use Rattle.path.proofs.Limits.{GoodBelow, Least, search_to}
-use Rattle.call.specs.declared.opening.Opened.TheVariants.{Refused, Anchors}
-use Rattle.call.specs.Tests.{places, path_fits, drawing_fits, path_limit, drawing_limit, opened, opened_path, opened_drawing}
+use Rattle.call.specs.Tests.{places, path_fits, drawing_fits, path_limit, drawing_limit, opened_path, opened_drawing}
 
 -- ---- tests by place
 module _ (good : ℕ → Bool) (n : ℕ) (after : Test) where
@@ -36,18 +38,18 @@ module _ (good : ℕ → Bool) (n : ℕ) (after : Test) where
 module _ (b : Bool) (good : ℕ → Bool) (n : ℕ) where
   -- loose arguments, then what comes later
   abbrev first : Bool → Verdict → Verdict
-  first loose later = judge (holds b 0) 7 (judge (places good n (holds loose n)) 5 later)
+  first loose later = judge (holds b 0) Lists (judge (places good n (holds loose n)) Arguments later)
 
-  first_lists : b ≡ false → (loose : Bool) (later : Verdict) → first loose later ≡ refused 7 0
+  first_lists : b ≡ false → (loose : Bool) (later : Verdict) → first loose later ≡ refused (refusal_at Lists 0)
   unfolding judge holds
   first_lists e loose later = rw e
 
   module _ (e : b ≡ true) where
-    first_least : (k : ℕ) → Least good n k → (loose : Bool) (later : Verdict) → first loose later ≡ refused 5 k
+    first_least : (k : ℕ) → Least good n k → (loose : Bool) (later : Verdict) → first loose later ≡ refused (refusal_at Arguments k)
     unfolding judge
     first_least k l loose later = rw (holds_true 0 e, places_fail good n (holds loose n) k l)
 
-    first_passed : GoodBelow good n → (loose : Bool) (later : Verdict) → first loose later ≡ judge (holds loose n) 5 later
+    first_passed : GoodBelow good n → (loose : Bool) (later : Verdict) → first loose later ≡ judge (holds loose n) Arguments later
     unfolding judge
     first_passed g loose later = rw (holds_true 0 e, places_pass good n (holds loose n) g)
 
@@ -56,17 +58,14 @@ module _ (b : Bool) (good : ℕ → Bool) (n : ℕ) where
     first_open g = rw (first_passed g true accepted)
 
   -- by what the tests found
-  pub open_lists : b ≡ false → Refused 7 0 ≡ opened (first true accepted) n
-  unfolding opened
-  open_lists e = rw (first_lists e true accepted)
+  pub open_lists : b ≡ false → Err (refusal_at Lists 0) ≡ answering (first true accepted) n
+  open_lists e = answers_err n (first_lists e true accepted)
 
-  pub open_least : b ≡ true → (k : ℕ) → Least good n k → Refused 5 k ≡ opened (first true accepted) n
-  unfolding opened
-  open_least e k l = rw (first_least e k l true accepted)
+  pub open_least : b ≡ true → (k : ℕ) → Least good n k → Err (refusal_at Arguments k) ≡ answering (first true accepted) n
+  open_least e k l = answers_err n (first_least e k l true accepted)
 
-  pub open_all : b ≡ true → GoodBelow good n → Anchors n ≡ opened (first true accepted) n
-  unfolding opened
-  open_all e g = rw (first_open e g)
+  pub open_all : b ≡ true → GoodBelow good n → Ok n ≡ answering (first true accepted) n
+  open_all e g = answers_ok n (first_open e g)
 
   -- and back: what an answer says of them
   pub data Way : Type 0 where
@@ -81,30 +80,27 @@ module _ (b : Bool) (good : ℕ → Bool) (n : ℕ) where
       go false e = short e
       go true e = ⊎_elim (fine e) (λ kl. bad e kl.0 kl.1) (search_to good n)
 
-  differ : (c k m : ℕ) → Refused c k ≡ Anchors m → ⊥
-  differ c k m e = let z : ◌≡◌ {A = ℕ} 0 1 = cc in omega arith
-
-  same_refusal : (c k d l : ℕ) → Refused c k ≡ Refused d l → refused c k ≡ refused d l
-  same_refusal c k d l e = cc
-
-  pub answer-refused : (c k : ℕ) → opened (first true accepted) n ≡ Refused c k → (loose : Bool) (later : Verdict) → first loose later ≡ refused c k
-  answer-refused c k e loose later = go way
+  pub answer-refused : (why : Refusal) → answering (first true accepted) n ≡ Err why → (loose : Bool) (later : Verdict) → first loose later ≡ refused why
+  answer-refused why e loose later = go way
     where
-      go : Way → first loose later ≡ refused c k
-      go (short h) = first_lists h loose later ∙ same_refusal 7 0 c k (open_lists h ∙ e)
-      go (bad h i l) = first_least h i l loose later ∙ same_refusal 5 i c k (open_least h i l ∙ e)
-      go (fine h g) = absurd (differ c k n (sym (open_all h g ∙ e)))
+      went : first true accepted ≡ refused why
+      went = err_says _ n why e
 
-  pub answer_open : (m : ℕ) → opened (first true accepted) n ≡ Anchors m → (b ≡ true) × GoodBelow good n × (m ≡ n)
+      go : Way → first loose later ≡ refused why
+      go (short h) = first_lists h loose later ∙ sym (first_lists h true accepted) ∙ went
+      go (bad h i l) = first_least h i l loose later ∙ sym (first_least h i l true accepted) ∙ went
+      go (fine h g) = absurd (refusing why (sym went ∙ first_open h g))
+
+  pub answer_open : (m : ℕ) → answering (first true accepted) n ≡ Ok m → (b ≡ true) × GoodBelow good n × (m ≡ n)
   answer_open m e = go way
     where
-      same_count : Anchors n ≡ Anchors m → m ≡ n
-      same_count f = cc
+      went : (first true accepted ≡ accepted) × (n ≡ m)
+      went = ok_says _ n m e
 
       go : Way → (b ≡ true) × GoodBelow good n × (m ≡ n)
-      go (short h) = absurd (differ 7 0 m (open_lists h ∙ e))
-      go (bad h i l) = absurd (differ 5 i m (open_least h i l ∙ e))
-      go (fine h g) = (h, g, same_count (open_all h g ∙ e))
+      go (short h) = absurd (refusing _ (sym (first_lists h true accepted) ∙ went.0))
+      go (bad h i l) = absurd (refusing _ (sym (first_least h i l true accepted) ∙ went.0))
+      go (fine h g) = (h, g, sym went.1)
 
 -- ---- a path
 -- the size that `size_test` refuses
@@ -118,7 +114,7 @@ size_wrong most shapes anchors = go (leb (length shapes) 32) (leb (total shapes)
     go false q e = refl
 
 module _ (most : ℕ) (shapes : List ℕ) (anchors : List Float) where
-  pub path_wrong : sized_of shapes most ≡ None → Refused 7 0 ≡ opened_path most shapes anchors
+  pub path_wrong : sized_of shapes most ≡ None → Err (refusal_at Lists 0) ≡ opened_path most shapes anchors
   unfolding opened_path path_limit
   path_wrong e = open_lists _ _ _ (size_wrong most shapes anchors e)
 
@@ -131,16 +127,16 @@ module _ (most : ℕ) (shapes : List ℕ) (anchors : List Float) where
     unfolding path_fits
     long_path h = let e = f.count in rw (le-leb _ _ f.words, le-leb _ _ f.anchors, le-leb (total shapes * 6) (length anchors) (omega arith))
 
-    pub path_short : length anchors < n * 6 → Refused 7 0 ≡ opened_path most shapes anchors
+    pub path_short : length anchors < n * 6 → Err (refusal_at Lists 0) ≡ opened_path most shapes anchors
     unfolding opened_path path_limit
     path_short h = open_lists _ _ _ (short_path h)
 
     module _ (h : n * 6 ≤ length anchors) where
-      pub path_bad : (k : ℕ) → Least (anchor_in anchors) (total shapes) k → Refused 5 k ≡ opened_path most shapes anchors
+      pub path_bad : (k : ℕ) → Least (anchor_in anchors) (total shapes) k → Err (refusal_at Arguments k) ≡ opened_path most shapes anchors
       unfolding opened_path path_limit
       path_bad k l = open_least _ _ _ (long_path h) k l
 
-      pub path_good : GoodBelow (anchor_in anchors) (total shapes) → Anchors n ≡ opened_path most shapes anchors
+      pub path_good : GoodBelow (anchor_in anchors) (total shapes) → Ok n ≡ opened_path most shapes anchors
       unfolding opened_path path_limit
       path_good g = rw f.count (open_all _ _ _ (long_path h) g)
 
@@ -166,7 +162,7 @@ module _ (most : ℕ) (shapes : List ℕ) (anchors : List Float) where
       go true false r e f g h = absurd (true≢false (sym h))
       go false q r e f g h = absurd (true≢false (sym h))
 
-  pub path_opens : (n : ℕ) → opened_path most shapes anchors ≡ Anchors n → PathOpens n
+  pub path_opens : (n : ℕ) → opened_path most shapes anchors ≡ Ok n → PathOpens n
   unfolding opened_path path_limit
   path_opens n e =
       let a = answer_open _ _ _ n e in
@@ -181,10 +177,10 @@ module _ (most : ℕ) (shapes : List ℕ) (anchors : List Float) where
         places_good = λ loose. places_pass (anchor_in anchors) (total shapes) (holds loose (total shapes)) a.1;
       }
 
-  pub path_refused : (c k : ℕ) → opened_path most shapes anchors ≡ Refused c k → (loose : Bool) (later : Verdict)
-      → judge (holds (path_fits most shapes anchors) 0) 7 (judge (path_limit shapes anchors loose) 5 later) ≡ refused c k
+  pub path_refused : (why : Refusal) → opened_path most shapes anchors ≡ Err why → (loose : Bool) (later : Verdict)
+      → judge (holds (path_fits most shapes anchors) 0) Lists (judge (path_limit shapes anchors loose) Arguments later) ≡ refused why
   unfolding opened_path path_limit
-  path_refused c k e loose later = answer-refused _ _ _ c k e loose later
+  path_refused why e loose later = answer-refused _ _ _ why e loose later
 
 -- ---- a drawing
 module _ (shapes : List ℕ) (anchors radii : List Float) where
@@ -192,12 +188,12 @@ module _ (shapes : List ℕ) (anchors radii : List Float) where
   unfolding drawing_fits
   no_drawing e = rw e
 
-  pub drawing_wrong : sized_of shapes 512 ≡ None → Refused 7 0 ≡ opened_drawing shapes anchors radii
+  pub drawing_wrong : sized_of shapes 512 ≡ None → Err (refusal_at Lists 0) ≡ opened_drawing shapes anchors radii
   unfolding opened_drawing drawing_limit
   drawing_wrong e = open_lists _ _ _ (no_drawing (size_wrong 512 shapes anchors e))
 
   module _ (n : ℕ) (f : Fits shapes 512 n) where
-    pub drawing-short : length anchors < n * 6 → Refused 7 0 ≡ opened_drawing shapes anchors radii
+    pub drawing-short : length anchors < n * 6 → Err (refusal_at Lists 0) ≡ opened_drawing shapes anchors radii
     unfolding opened_drawing drawing_limit
     drawing-short h = open_lists _ _ _ (no_drawing (short_path 512 shapes anchors n f h))
 
@@ -206,7 +202,7 @@ module _ (shapes : List ℕ) (anchors radii : List Float) where
       unfolding drawing_fits
       few_radii r = let e = f.count in rw (long_path 512 shapes anchors n f h, lt-leb (total shapes) (length radii) (omega arith))
 
-      pub drawing_radii : length radii < n → Refused 7 0 ≡ opened_drawing shapes anchors radii
+      pub drawing_radii : length radii < n → Err (refusal_at Lists 0) ≡ opened_drawing shapes anchors radii
       unfolding opened_drawing drawing_limit
       drawing_radii r = open_lists _ _ _ (few_radii r)
 
@@ -215,11 +211,11 @@ module _ (shapes : List ℕ) (anchors radii : List Float) where
         unfolding drawing_fits
         all_lists = let e = f.count in rw (long_path 512 shapes anchors n f h, le-leb (total shapes) (length radii) (omega arith))
 
-        pub drawing_bad : (k : ℕ) → Least (place_in anchors radii) (total shapes) k → Refused 5 k ≡ opened_drawing shapes anchors radii
+        pub drawing_bad : (k : ℕ) → Least (place_in anchors radii) (total shapes) k → Err (refusal_at Arguments k) ≡ opened_drawing shapes anchors radii
         unfolding opened_drawing drawing_limit
         drawing_bad k l = open_least _ _ _ all_lists k l
 
-        pub drawing_good : GoodBelow (place_in anchors radii) (total shapes) → Anchors n ≡ opened_drawing shapes anchors radii
+        pub drawing_good : GoodBelow (place_in anchors radii) (total shapes) → Ok n ≡ opened_drawing shapes anchors radii
         unfolding opened_drawing drawing_limit
         drawing_good g = rw f.count (open_all _ _ _ all_lists g)
 
@@ -242,7 +238,7 @@ module _ (shapes : List ℕ) (anchors radii : List Float) where
       go true false e f h = absurd (true≢false (sym h))
       go false q e f h = absurd (true≢false (sym h))
 
-  pub drawing_opens : (n : ℕ) → opened_drawing shapes anchors radii ≡ Anchors n → DrawingOpens n
+  pub drawing_opens : (n : ℕ) → opened_drawing shapes anchors radii ≡ Ok n → DrawingOpens n
   unfolding opened_drawing drawing_limit
   drawing_opens n e =
       let a = answer_open _ _ _ n e in
@@ -259,7 +255,7 @@ module _ (shapes : List ℕ) (anchors radii : List Float) where
         places_good = λ loose. places_pass (place_in anchors radii) (total shapes) (holds loose (total shapes)) a.1;
       }
 
-  pub drawing-refused : (c k : ℕ) → opened_drawing shapes anchors radii ≡ Refused c k → (loose : Bool) (later : Verdict)
-      → judge (holds (drawing_fits shapes anchors radii) 0) 7 (judge (drawing_limit shapes anchors radii loose) 5 later) ≡ refused c k
+  pub drawing-refused : (why : Refusal) → opened_drawing shapes anchors radii ≡ Err why → (loose : Bool) (later : Verdict)
+      → judge (holds (drawing_fits shapes anchors radii) 0) Lists (judge (drawing_limit shapes anchors radii loose) Arguments later) ≡ refused why
   unfolding opened_drawing drawing_limit
-  drawing-refused c k e loose later = answer-refused _ _ _ c k e loose later
+  drawing-refused why e loose later = answer-refused _ _ _ why e loose later

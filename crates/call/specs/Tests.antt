@@ -1,13 +1,14 @@
 -- The tests that calls on paths share (document 01, 'Who can cause a refusal'). Assumes nothing.
+use Rattle.std.proofs.Common.{Result}
 use Rattle.std.specs.Prelude.{ℕ, ◌*◌, Bool, true, ◌&&◌, cond, List, leb, ltb, length, Float}
 use Rattle.views.specs.Search.{first_false}
-use Rattle.refusal.specs.Order.{Test, passes, fails, holds, judge, Verdict, accepted, refused}
+use Rattle.refusal.specs.declared.Refusal.{Refusal}
+use Rattle.refusal.specs.declared.Reason.TheVariants.{Arguments, Lists}
+use Rattle.refusal.specs.Order.{Test, passes, fails, holds, judge, accepted, answering}
 use Rattle.path.specs.declared.anchor.Anchor.{Anchor}
 use Rattle.path.specs.Flat.{nth}
 use Rattle.path.specs.Shape.{total}
 use Rattle.path.specs.Limit.{anchor_good, anchor_in, place_in}
-use Rattle.call.specs.declared.opening.Opened.{Opened}
-use Rattle.call.specs.declared.opening.Opened.TheVariants.{Refused, Anchors}
 
 -- the first of n places that does not pass, else what is tested after them
 unfoldable pub places : (ℕ → Bool) → ℕ → Test → Test
@@ -40,12 +41,8 @@ unfoldable pub room_for : ℕ → ℕ → List ℕ → List Float → Bool
 room_for m count to_shapes to = leb m (length to_shapes) && leb (count * 6) (length to)
 
 -- ---- 7, then 5 without loose arguments: how many anchors, or the refusal
-unfoldable pub opened : Verdict → ℕ → Opened
-opened accepted n = Anchors n
-opened (refused c place) n = Refused c place
+unfoldable pub opened_path : ℕ → List ℕ → List Float → Result ℕ Refusal
+opened_path most shapes anchors = answering (judge (holds (path_fits most shapes anchors) 0) Lists (judge (path_limit shapes anchors true) Arguments accepted)) (total shapes)
 
-unfoldable pub opened_path : ℕ → List ℕ → List Float → Opened
-opened_path most shapes anchors = opened (judge (holds (path_fits most shapes anchors) 0) 7 (judge (path_limit shapes anchors true) 5 accepted)) (total shapes)
-
-unfoldable pub opened_drawing : List ℕ → List Float → List Float → Opened
-opened_drawing shapes anchors radii = opened (judge (holds (drawing_fits shapes anchors radii) 0) 7 (judge (drawing_limit shapes anchors radii true) 5 accepted)) (total shapes)
+unfoldable pub opened_drawing : List ℕ → List Float → List Float → Result ℕ Refusal
+opened_drawing shapes anchors radii = answering (judge (holds (drawing_fits shapes anchors radii) 0) Lists (judge (drawing_limit shapes anchors radii true) Arguments accepted)) (total shapes)

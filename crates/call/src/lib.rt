@@ -7,4 +7,4 @@ mod opening;
 
 pub use answers::Outline;
 pub use handing::hand_over;
-pub use opening::{Opened, open_drawing, open_path};
+pub use opening::{open_drawing, open_path};

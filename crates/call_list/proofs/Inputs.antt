@@ -9,11 +9,14 @@ use lib.ListN.{length, take}
 use lib.Seq.{length-take-le, get_or-take}
 use lib.Ieee.{Float, nan}
 use borrow.Author.Tests.{leb-true, le-leb, lt-leb}
+use Rattle.std.proofs.Common.{Ok, Err, Result}
 use Rattle.views.specs.View.{tabulate, overwrite}
 use Rattle.views.proofs.Bools.{and_false, both}
 use Rattle.views.proofs.Laws.{as_tabulate, length-overwrite, at_overwrite}
-use Rattle.call_list.specs.declared.calls.Calls.TheVariants.{Refused, Read}
 use Rattle.call_list.specs.Input.{count_in, list_fits, code_at, value_at, calls_answer, codes_left, values_left, codes_in, values_in}
+use Rattle.refusal.specs.Reasons.{refusal_at}
+use Rattle.refusal.specs.declared.Refusal.{Refusal}
+use Rattle.refusal.specs.declared.Reason.TheVariants.{Unended}
 
 pub many_unfit : (bytes : List ℕ) → 256 < count_in bytes → list_fits bytes ≡ false
 unfolding list_fits
@@ -36,12 +39,12 @@ unfolding list_fits
 fits_long bytes e = leb-true _ _ (both (leb (count_in bytes) 256) _ e).1
 
 module _ (bytes codes : List ℕ) (values : List Float) where
-  pub calls_refused : list_fits bytes ≡ false → (Refused 1 (length bytes / 4) ≡ calls_answer bytes) × ((codes ≡ codes_left bytes codes) × (values ≡ values_left bytes values))
+  pub calls_refused : list_fits bytes ≡ false → (Err (refusal_at Unended (length bytes / 4)) ≡ calls_answer bytes) × ((codes ≡ codes_left bytes codes) × (values ≡ values_left bytes values))
   unfolding calls_answer codes_left values_left
   calls_refused e = (rw e, (rw e, rw e))
 
   pub calls_read : list_fits bytes ≡ true
-      → (Read (count_in bytes) ≡ calls_answer bytes) × ((overwrite (count_in bytes * 3) (code_at bytes) codes ≡ codes_left bytes codes) × (overwrite (count_in bytes * 6) (value_at bytes) values ≡ values_left bytes values))
+      → (Ok (count_in bytes) ≡ calls_answer bytes) × ((overwrite (count_in bytes * 3) (code_at bytes) codes ≡ codes_left bytes codes) × (overwrite (count_in bytes * 6) (value_at bytes) values ≡ values_left bytes values))
   unfolding calls_answer codes_left values_left
   calls_read e = (rw e, (rw e, rw e))
 
@@ -52,17 +55,17 @@ pub record Reads (bytes : List ℕ) (m : ℕ) : Type 0 where
   pub long : 4 + m * 36 ≤ length bytes
   pub fits : list_fits bytes ≡ true
 
-pub reads : (bytes : List ℕ) (m : ℕ) → calls_answer bytes ≡ Read m → Reads bytes m
+pub reads : (bytes : List ℕ) (m : ℕ) → calls_answer bytes ≡ Ok m → Reads bytes m
 unfolding calls_answer
 reads bytes m = go (list_fits bytes) refl
   where
-    differ : {n place : ℕ} → Refused n place ≡ Read m → ⊥
+    differ : {why : Refusal} → ◌≡◌ {A = Result ℕ Refusal} (Err why) (Ok m) → ⊥
     differ q = let z : ◌≡◌ {A = ℕ} 0 1 = cc in omega arith
 
-    same_count : Read (count_in bytes) ≡ Read m → m ≡ count_in bytes
+    same_count : ◌≡◌ {A = Result ℕ Refusal} (Ok (count_in bytes)) (Ok m) → m ≡ count_in bytes
     same_count q = cc
 
-    go : (t : Bool) → list_fits bytes ≡ t → cond t (Read (count_in bytes)) (Refused 1 (length bytes / 4)) ≡ Read m → Reads bytes m
+    go : (t : Bool) → list_fits bytes ≡ t → cond t (Ok (count_in bytes)) (Err (refusal_at Unended (length bytes / 4))) ≡ Ok m → Reads bytes m
     go true e q = let k = same_count q in record { count = k; few = rw k (fits_few bytes e); long = rw k (fits_long bytes e); fits = e }
     go false e q = absurd (differ q)
 

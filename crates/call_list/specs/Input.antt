@@ -1,10 +1,11 @@
 -- The list of calls at the start of the input (docs/EDITS.md): a count, then nine words a call, three of its code and six of its values. Assumes nothing.
-use Rattle.std.specs.Prelude.{ℕ, ◌+◌, ◌*◌, ◌/◌, ◌%◌, Bool, ◌&&◌, cond, List, leb, length, Float}
+use Rattle.std.specs.Prelude.{ℕ, ◌+◌, ◌*◌, ◌/◌, ◌%◌, Bool, ◌&&◌, cond, List, leb, length, Float, Ok, Err, Result}
 use Rattle.views.specs.View.{tabulate, overwrite}
 use Rattle.job.specs.Words.{word_at}
-use Rattle.call_list.specs.declared.calls.Calls as declared
-use Rattle.call_list.specs.declared.calls.Calls.TheVariants.{Refused, Read}
 use Rattle.call_list.specs.Number.{number_of}
+use Rattle.refusal.specs.Reasons.{refusal_at}
+use Rattle.refusal.specs.declared.Refusal.{Refusal}
+use Rattle.refusal.specs.declared.Reason.TheVariants.{Unended}
 
 -- how many calls: word 0
 unfoldable pub count_in : List ℕ → ℕ
@@ -23,8 +24,8 @@ unfoldable pub value_at : List ℕ → ℕ → Float
 value_at bytes k = number_of (word_at bytes (4 + k / 6 * 9 + k % 6))
 
 -- ---- the answer, and the lists afterwards: a refusal leaves every bit. Its place is how many whole words there are
-unfoldable pub calls_answer : List ℕ → declared.Calls
-calls_answer bytes = cond (list_fits bytes) (Read (count_in bytes)) (Refused 1 (length bytes / 4))
+unfoldable pub calls_answer : List ℕ → Result ℕ Refusal
+calls_answer bytes = cond (list_fits bytes) (Ok (count_in bytes)) (Err (refusal_at Unended (length bytes / 4)))
 
 unfoldable pub codes_left : List ℕ → List ℕ → List ℕ
 codes_left bytes codes = cond (list_fits bytes) (overwrite (count_in bytes * 3) (code_at bytes) codes) codes

@@ -4,13 +4,7 @@ ghost use Rattle.views.specs.View.{overwrite};
 ghost use Rattle.call_list.specs.Input.{list_fits, code_at, value_at, calls_answer, codes_left, values_left};
 
 use crate::number::number_of;
-
-// A refusal's number and place, or how many calls were read.
-#[derive(Clone, Copy)]
-pub enum Calls {
-    Refused(u32, usize),
-    Read(usize),
-}
+use refusal::{Reason, Refusal};
 
 // The codes of m calls, three words each: which, subpath, index.
 fn read_codes(bytes: &[u8], m: usize, codes: &mut [u32])
@@ -33,6 +27,7 @@ fn read_values(bytes: &[u8], m: usize, values: &mut [f64])
 }
 
 // Whether there are at most 256 calls, and all their words are there.
+#[tactic(auto, using(crate::proofs::Inputs::many_unfit, crate::proofs::Inputs::short_unfit, crate::proofs::Inputs::few_fit), unfolding(crate::specs::Input::count_in))]
 fn list_fits(bytes: &[u8]) -> bool
     ensures { result ≡ list_fits bytes.now }
 {
@@ -46,17 +41,22 @@ fn list_fits(bytes: &[u8]) -> bool
     4 + m * 36 <= bytes.len()
 }
 
-// Reads the calls at the start of the input: refused 1 where there are more than 256, or fewer bytes than they take.
-pub fn read_calls(bytes: &[u8], codes: &mut [u32; 768], values: &mut [f64; 1536]) -> Calls
+// Reads the calls at the start of the input: refused as unended where there are more than 256, or fewer bytes than they take. The answer
+// is how many calls were read.
+pub fn read_calls(
+    bytes: &[u8],
+    codes: &mut [u32; 768],
+    values: &mut [f64; 1536],
+) -> Result<usize, Refusal>
     ensures answer { result ≡ calls_answer bytes.now }
     ensures codes { codes.new ≡ codes_left bytes.now codes.old }
     ensures values { values.new ≡ values_left bytes.now values.old }
 {
     if !list_fits(bytes) {
-        return Calls::Refused(1, bytes.len() / 4);
+        return Err(Reason::Unended.at(bytes.len() / 4));
     }
     let m = job::word_at(bytes, 0) as usize;
     read_codes(bytes, m, codes);
     read_values(bytes, m, values);
-    Calls::Read(m)
+    Ok(m)
 }

@@ -4,4 +4,4 @@
 mod calls;
 mod number;
 
-pub use calls::{Calls, read_calls};
+pub use calls::read_calls;

@@ -3,6 +3,7 @@ ghost use Rattle.std.specs.Prelude.{◌≡◌};
 ghost use Rattle.call_list.specs.Number.{number_of};
 
 // A word as a number: two's complement, in units of 1/1024. Both steps are exact.
+#[tactic(auto, unfolding(crate::specs::Number::number_of))]
 pub fn number_of(word: u32) -> f64
     ensures { result ≡ number_of word }
 {

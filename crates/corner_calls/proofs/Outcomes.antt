@@ -13,20 +13,20 @@ use Rattle.views.specs.Search.{all}
 use Rattle.views.proofs.Laws.{overwrite_cong}
 use Rattle.views.proofs.Searches.{all_cong}
 use Rattle.real.specs.Limit.{in_limit}
-use Rattle.refusal.specs.Order.{holds, judge, Verdict, accepted, refused}
-use Rattle.refusal.proofs.Verdicts.{in_order}
-use Rattle.call.specs.declared.opening.Opened.TheVariants as opened
+use Rattle.refusal.specs.Reasons.{refusal_at}
+use Rattle.refusal.specs.declared.Refusal.{Refusal}
+use Rattle.refusal.specs.declared.Reason.TheVariants.{Output, Made}
+use Rattle.refusal.specs.Order.{holds, judge, accepted, refused}
+use Rattle.refusal.proofs.Verdicts.{in_order, answers_ok, answers_err}
 use Rattle.call.specs.Tests.{opened_path}
 use Rattle.call.proofs.Openings.{PathOpens, path_refused}
 use Rattle.call.proofs.Handings.{list_kept, list_written}
 use Rattle.corner.specs.declared.corner.Corner.{Corner}
-use Rattle.std.proofs.Common.{Option}
-use Rattle.corner_calls.specs.declared.calls.Corners.TheVariants.{Refused, Accepted}
+use Rattle.std.proofs.Common.{Option, Ok, Err}
 use Rattle.corner_calls.specs.Corners.{path_corner, found_below, corner_places, numbers_of, Holds}
 use Rattle.corner_calls.specs.Calls.{
   corners_in,
   corners_room,
-  corners_answer,
   path_corners_verdict,
   path_corners_answer,
   path_corners_places,
@@ -36,15 +36,6 @@ use Rattle.corner_calls.specs.Calls.{
   places_held,
   found_numbers,
 }
-
--- ---- what a verdict answers
-answer-refused : {v : Verdict} {n k : ℕ} (m : ℕ) → v ≡ refused n k → Refused n k ≡ corners_answer v m
-unfolding corners_answer
-answer-refused m e = rw e
-
-answer_accepted : {v : Verdict} (m : ℕ) → v ≡ accepted → Accepted m ≡ corners_answer v m
-unfolding corners_answer
-answer_accepted m e = rw e
 
 -- ---- room
 module _ (n : ℕ) (places : List ℕ) (numbers : List Float) where
@@ -69,21 +60,21 @@ module _ (corner : ℕ → Option Corner) (k : ℕ) (at : List ℕ) (rows : List
   unfolding corners_in
   in-scratch = sym (all_cong _ _ (n * 9) (λ j l. ap in_limit (h.number j l)) ∙ ap (λ z. all (λ j. in_limit (numbers_of corner ps j)) (z * 9)) h.count)
 
-  refuses : {m p : ℕ} → found_verdict corner ps places numbers ≡ refused m p
-      → (Refused m p ≡ found_answer corner (found_below corner k) places numbers)
+  refuses : {why : Refusal} → found_verdict corner ps places numbers ≡ refused why
+      → (Err why ≡ found_answer corner (found_below corner k) places numbers)
       × ((places ≡ places_held corner (found_below corner k) places numbers) × (numbers ≡ found_numbers corner (found_below corner k) places numbers))
   unfolding found_answer places_held found_numbers
-  refuses e = (answer-refused _ e, (list_kept _ _ _ e, list_kept _ _ _ e))
+  refuses e = (answers_err _ e, (list_kept _ _ _ e, list_kept _ _ _ e))
 
   pub beyond_limit : all (λ j. in_limit (entry rows j)) (n * 9) ≡ false
-      → (Refused 9 0 ≡ found_answer corner (found_below corner k) places numbers)
+      → (Err (refusal_at Made 0) ≡ found_answer corner (found_below corner k) places numbers)
       × ((places ≡ places_held corner (found_below corner k) places numbers) × (numbers ≡ found_numbers corner (found_below corner k) places numbers))
   unfolding found_verdict judge holds
   beyond_limit e = refuses (rw (in-scratch ∙ e))
 
   module _ (good : all (λ j. in_limit (entry rows j)) (n * 9) ≡ true) where
     pub short-of-room : corners_room n places numbers ≡ false
-        → (Refused 8 0 ≡ found_answer corner (found_below corner k) places numbers)
+        → (Err (refusal_at Output 0) ≡ found_answer corner (found_below corner k) places numbers)
         × ((places ≡ places_held corner (found_below corner k) places numbers) × (numbers ≡ found_numbers corner (found_below corner k) places numbers))
     unfolding found_verdict judge holds
     short-of-room e = refuses (rw (in-scratch ∙ good, ← h.count, e))
@@ -93,13 +84,13 @@ module _ (corner : ℕ → Option Corner) (k : ℕ) (at : List ℕ) (rows : List
     accepts l m = rw (in-scratch ∙ good, ← h.count, room n places numbers l m)
 
     pub copied : n ≤ length places → n * 9 ≤ length numbers
-        → (Accepted n ≡ found_answer corner (found_below corner k) places numbers)
+        → (Ok n ≡ found_answer corner (found_below corner k) places numbers)
         × ((overwrite n (λ i. get_or at i 0) places ≡ places_held corner (found_below corner k) places numbers)
         × (overwrite (n * 9) (entry rows) numbers ≡ found_numbers corner (found_below corner k) places numbers))
     unfolding found_answer places_held found_numbers
     copied l m =
         let v = accepts l m in (
-          ap Accepted h.count ∙ answer_accepted _ v,
+          ap Ok h.count ∙ answers_ok _ v,
           (
             overwrite_cong n _ (λ i. get_or ps i 0) places h.place ∙ ap (λ z. overwrite z (λ i. get_or ps i 0) places) h.count ∙ list_written _ _ _ v,
             overwrite_cong (n * 9) _ (numbers_of corner ps) numbers h.number ∙ ap (λ z. overwrite (z * 9) (numbers_of corner ps) numbers) h.count ∙ list_written _ _ _ v,
@@ -108,19 +99,19 @@ module _ (corner : ℕ → Option Corner) (k : ℕ) (at : List ℕ) (rows : List
 
 -- ---- the call: by what the opening of the path found
 module _ (shapes : List ℕ) (anchors : List Float) (places : List ℕ) (numbers : List Float) where
-  refused_there : (n k : ℕ) → opened_path 512 shapes anchors ≡ opened.Refused n k → path_corners_verdict shapes anchors places numbers ≡ refused n k
+  refused_there : (why : Refusal) → opened_path 512 shapes anchors ≡ Err why → path_corners_verdict shapes anchors places numbers ≡ refused why
   unfolding path_corners_verdict
-  refused_there n k e = in_order _ _ _ _ _ _ ∙ path_refused 512 shapes anchors n k e true _
+  refused_there why e = in_order _ _ _ _ _ _ ∙ path_refused 512 shapes anchors why e true _
 
   opened_there : {n : ℕ} → PathOpens 512 shapes anchors n → path_corners_verdict shapes anchors places numbers ≡ found_verdict (path_corner shapes anchors) (corner_places shapes anchors) places numbers
   unfolding path_corners_verdict found_verdict judge holds
   opened_there o = in_order _ _ _ _ _ _ ∙ rw (o.lists_pass, o.places_good true)
 
-  pub not_opened : (n k : ℕ) → opened_path 512 shapes anchors ≡ opened.Refused n k
-      → (Refused n k ≡ path_corners_answer shapes anchors places numbers)
+  pub not_opened : (why : Refusal) → opened_path 512 shapes anchors ≡ Err why
+      → (Err why ≡ path_corners_answer shapes anchors places numbers)
       × ((places ≡ path_corners_places shapes anchors places numbers) × (numbers ≡ path_corners_numbers shapes anchors places numbers))
   unfolding path_corners_answer path_corners_places path_corners_numbers
-  not_opened n k e = let v = refused_there n k e in (answer-refused _ v, (list_kept _ _ _ v, list_kept _ _ _ v))
+  not_opened why e = let v = refused_there why e in (answers_err _ v, (list_kept _ _ _ v, list_kept _ _ _ v))
 
   pub as_found : {n : ℕ} → PathOpens 512 shapes anchors n
       → (found_answer (path_corner shapes anchors) (corner_places shapes anchors) places numbers ≡ path_corners_answer shapes anchors places numbers)

@@ -1,13 +1,13 @@
 -- What `path_corners` answers, and what it leaves in the lists lent to it. Assumes nothing.
-use Rattle.std.specs.Prelude.{ℕ, ◌*◌, Bool, true, ◌&&◌, Option, List, leb, length, get_or, Float}
+use Rattle.std.specs.Prelude.{ℕ, ◌*◌, Bool, true, ◌&&◌, Option, List, leb, length, get_or, Float, Result}
 use Rattle.views.specs.Search.{all}
 use Rattle.real.specs.Limit.{in_limit}
-use Rattle.refusal.specs.Order.{passes, holds, judge, Verdict, accepted, refused, verdict, tests}
+use Rattle.refusal.specs.declared.Refusal.{Refusal}
+use Rattle.refusal.specs.declared.Reason.TheVariants.{Output, Made}
+use Rattle.refusal.specs.Order.{passes, holds, judge, Verdict, accepted, verdict, tests, answering}
 use Rattle.call.specs.Tests.{path_fits, path_limit}
 use Rattle.call.specs.Answers.{list_left}
 use Rattle.corner.specs.declared.corner.Corner.{Corner}
-use Rattle.corner_calls.specs.declared.calls.Corners.{Corners}
-use Rattle.corner_calls.specs.declared.calls.Corners.TheVariants.{Refused, Accepted}
 use Rattle.corner_calls.specs.Corners.{path_corner, corner_places, numbers_of}
 
 -- 9: every number told of the corners at the places ps; place 0, since they are no path
@@ -17,11 +17,6 @@ corners_in corner ps = all (λ j. in_limit (numbers_of corner ps j)) (length ps 
 -- 8: a word and nine numbers for each of n corners
 unfoldable pub corners_room : ℕ → List ℕ → List Float → Bool
 corners_room n places numbers = leb n (length places) && leb (n * 9) (length numbers)
-
--- how many corners
-unfoldable pub corners_answer : Verdict → ℕ → Corners
-corners_answer accepted n = Accepted n
-corners_answer (refused n place) m = Refused n place
 
 -- ---- the call: a path of at most 512 anchors
 module _ (shapes : List ℕ) (anchors : List Float) (places : List ℕ) (numbers : List Float) where
@@ -37,8 +32,9 @@ module _ (shapes : List ℕ) (anchors : List Float) (places : List ℕ) (numbers
       (holds (corners_in (path_corner shapes anchors) ps) 0)
       (holds (corners_room (length ps) places numbers) 0))
 
-  unfoldable pub path_corners_answer : Corners
-  path_corners_answer = corners_answer path_corners_verdict (length (corner_places shapes anchors))
+  -- how many corners
+  unfoldable pub path_corners_answer : Result ℕ Refusal
+  path_corners_answer = answering path_corners_verdict (length (corner_places shapes anchors))
 
   -- the corners' places
   unfoldable pub path_corners_places : List ℕ
@@ -51,10 +47,10 @@ module _ (shapes : List ℕ) (anchors : List Float) (places : List ℕ) (numbers
 -- ---- corners that are found: what is still tested, answered and left
 module _ (corner : ℕ → Option Corner) (ps places : List ℕ) (numbers : List Float) where
   unfoldable pub found_verdict : Verdict
-  found_verdict = judge (holds (corners_in corner ps) 0) 9 (judge (holds (corners_room (length ps) places numbers) 0) 8 accepted)
+  found_verdict = judge (holds (corners_in corner ps) 0) Made (judge (holds (corners_room (length ps) places numbers) 0) Output accepted)
 
-  unfoldable pub found_answer : Corners
-  found_answer = corners_answer found_verdict (length ps)
+  unfoldable pub found_answer : Result ℕ Refusal
+  found_answer = answering found_verdict (length ps)
 
   unfoldable pub places_held : List ℕ
   places_held = list_left found_verdict (length ps) (λ i. get_or ps i 0) places

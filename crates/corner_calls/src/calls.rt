@@ -1,4 +1,4 @@
-// `path_corners`, with its refusals: 7, 5, 9 at place 0, 8.
+// `path_corners`, with its refusals: by the lists, the arguments, what is made (at place 0), the output.
 ghost use Rattle.std.specs.Prelude.{◌≡◌, ◌*◌, ◌≤◌, length};
 ghost use Rattle.path.specs.Shape.{total};
 ghost use Rattle.corner_calls.specs.Corners.{path_corner, corner_places};
@@ -6,36 +6,31 @@ ghost use Rattle.corner_calls.specs.Calls.{path_corners_answer, path_corners_pla
 
 use crate::finding::find_corners;
 use crate::limits::all_in_limit;
-use call::Opened;
-
-// A refusal's number and place, or how many corners there are.
-#[derive(Clone, Copy)]
-pub enum Corners {
-    Refused(u32, usize),
-    Accepted(usize),
-}
+use refusal::{Reason, Refusal};
 
 // The corners of a path, in order: the place of each, and nine numbers: the point, the directions and the lengths of its sides, and the
-// largest radius.
+// largest radius. The answer is how many corners there are.
 pub fn path_corners(
     shapes: &[u32],
     anchors: &[f64],
     places: &mut [u32],
     numbers: &mut [f64],
-) -> Corners
+) -> Result<usize, Refusal>
     ensures answer { result ≡ path_corners_answer shapes.now anchors.now places.old numbers.old }
     ensures places { places.new ≡ path_corners_places shapes.now anchors.now places.old numbers.old }
     ensures numbers { numbers.new ≡ path_corners_numbers shapes.now anchors.now places.old numbers.old }
 {
-    let opened = call::open_path(512, shapes, anchors);
-    match opened {
-        Opened::Refused(number, place) => Corners::Refused(number, place),
-        Opened::Anchors(_) => list_corners(shapes, anchors, places, numbers),
-    }
+    call::open_path(512, shapes, anchors)?;
+    list_corners(shapes, anchors, places, numbers)
 }
 
-// The corners are found in scratch: refused 9 where a number breaks the limit, 8 where a list is too short, else copied.
-fn list_corners(shapes: &[u32], anchors: &[f64], places: &mut [u32], numbers: &mut [f64]) -> Corners
+// The corners are found in scratch: refused where a number breaks the limit or a list is too short, else copied.
+fn list_corners(
+    shapes: &[u32],
+    anchors: &[f64],
+    places: &mut [u32],
+    numbers: &mut [f64],
+) -> Result<usize, Refusal>
     requires { (length shapes.now ≤ 32) × (total shapes.now ≤ 512) × (total shapes.now * 6 ≤ length anchors.now) }
     ensures answer { result ≡ found_answer (path_corner shapes.now anchors.now) (corner_places shapes.now anchors.now) places.old numbers.old }
     ensures places { places.new ≡ places_held (path_corner shapes.now anchors.now) (corner_places shapes.now anchors.now) places.old numbers.old }
@@ -45,15 +40,15 @@ fn list_corners(shapes: &[u32], anchors: &[f64], places: &mut [u32], numbers: &m
     let mut rows = [0.0f64; 4608];
     let count = find_corners(shapes, anchors, &mut at, &mut rows);
     if !all_in_limit(&rows, count * 9) {
-        return Corners::Refused(refusal::RESULT, 0);
+        return Err(Reason::Made.at(0));
     }
     if places.len() < count {
-        return Corners::Refused(refusal::OUTPUT, 0);
+        return Err(Reason::Output.at(0));
     }
     if numbers.len() < count * 9 {
-        return Corners::Refused(refusal::OUTPUT, 0);
+        return Err(Reason::Output.at(0));
     }
     views::copy(&at, count, places);
     views::copy(&rows, count * 9, numbers);
-    Corners::Accepted(count)
+    Ok(count)
 }

@@ -5,4 +5,4 @@ mod calls;
 mod finding;
 mod limits;
 
-pub use calls::{Corners, path_corners};
+pub use calls::path_corners;

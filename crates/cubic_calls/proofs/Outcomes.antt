@@ -9,11 +9,11 @@ use borrow.Author.Tests.{le-leb, lt-leb}
 use Rattle.views.specs.View.{overwrite}
 use Rattle.geom.specs.declared.point.P.{P}
 use Rattle.geom.specs.Flat.{coordinates}
-use Rattle.refusal.specs.Order.{holds, judge, first_failing, verdict, Verdict, accepted, refused}
-use Rattle.cubic_calls.specs.declared.answers.Number.TheVariants as number
-use Rattle.cubic_calls.specs.declared.answers.Point.TheVariants as point
-use Rattle.cubic_calls.specs.declared.answers.Filled.TheVariants as filled
-use Rattle.cubic_calls.specs.Calls.{tests, judged, number_answer, point_answer, filled_answer, left, fits}
+use Rattle.refusal.specs.Reasons.{refusal_at}
+use Rattle.refusal.specs.declared.Refusal.{Refusal}
+use Rattle.refusal.specs.declared.Reason.TheVariants.{Arguments, Output, Made}
+use Rattle.refusal.specs.Order.{holds, judge, first_failing, verdict, tests, Verdict, accepted, refused}
+use Rattle.cubic_calls.specs.Calls.{judged, left, fits}
 
 -- ---- the room for some points
 pub room : (count : ℕ) (out : List Float) → 2 * count ≤ length out → fits count out ≡ true
@@ -32,15 +32,15 @@ pub second_fails : (a : Bool) {b : Bool} → b ≡ false → (a && b) ≡ false
 second_fails a p = rw p (and-false a)
 
 -- ---- the verdict
-pub given_fails : {given : Bool} (made room : Bool) → given ≡ false → judged given made room ≡ refused 5 0
+pub given_fails : {given : Bool} (made room : Bool) → given ≡ false → judged given made room ≡ refused (refusal_at Arguments 0)
 unfolding judged verdict first_failing judge tests holds
 given_fails made room g = rw g
 
-pub made_fails : {given made : Bool} (room : Bool) → given ≡ true → made ≡ false → judged given made room ≡ refused 9 0
+pub made_fails : {given made : Bool} (room : Bool) → given ≡ true → made ≡ false → judged given made room ≡ refused (refusal_at Made 0)
 unfolding judged verdict first_failing judge tests holds
 made_fails room g m = rw (g, m)
 
-pub room_fails : {given made room : Bool} → given ≡ true → made ≡ true → room ≡ false → judged given made room ≡ refused 8 0
+pub room_fails : {given made room : Bool} → given ≡ true → made ≡ true → room ≡ false → judged given made room ≡ refused (refusal_at Output 0)
 unfolding judged verdict first_failing judge tests holds
 room_fails g m r = rw (g, m, r)
 
@@ -48,25 +48,8 @@ pub all_hold : {given made room : Bool} → given ≡ true → made ≡ true →
 unfolding judged verdict first_failing judge tests holds
 all_hold g m r = rw (g, m, r)
 
--- ---- the answer
-pub number_accepted : {v : Verdict} (x : Float) → v ≡ accepted → number.Accepted x ≡ number_answer v x
-unfolding number_answer
-number_accepted x e = rw e
-
-pub point_accepted : {v : Verdict} (p : P) → v ≡ accepted → point.Accepted p ≡ point_answer v p
-unfolding point_answer
-point_accepted p e = rw e
-
-pub filled_refused : {v : Verdict} {n place : ℕ} (count : ℕ) → v ≡ refused n place → filled.Refused n place ≡ filled_answer v count
-unfolding filled_answer
-filled_refused count e = rw e
-
-pub filled_accepted : {v : Verdict} (count : ℕ) → v ≡ accepted → filled.Accepted count ≡ filled_answer v count
-unfolding filled_answer
-filled_accepted count e = rw e
-
 -- ---- a lent list
-pub kept : {v : Verdict} {n place : ℕ} (count : ℕ) (f : ℕ → P) (out : List Float) → v ≡ refused n place → out ≡ left v count f out
+pub kept : {v : Verdict} {why : Refusal} (count : ℕ) (f : ℕ → P) (out : List Float) → v ≡ refused why → out ≡ left v count f out
 unfolding left
 kept count f out e = rw e
 

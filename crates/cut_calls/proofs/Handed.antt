@@ -27,7 +27,7 @@ outline_few shapes f = omega (arith, outline_most shapes f (length shapes) (le_r
 pub list_same : {A : Type 0} (v : Verdict) (m : ℕ) (f g : ℕ → A) (ts : List A) → ((s : ℕ) → s < m → f s ≡ g s) → list_left v m f ts ≡ list_left v m g ts
 unfolding list_left
 list_same accepted m f g ts e = overwrite_cong m f g ts e
-list_same (refused n place) m f g ts e = refl
+list_same (refused why) m f g ts e = refl
 
 module _ (shapes : List ℕ) (f : ℕ → Place) (few : total shapes ≤ 512) (vs ws : List ℕ) (xs made : List Float)
     (w : ws ≡ overwrite (length shapes) (outline_shapes shapes f) vs) (e : made ≡ listed (outline_of shapes f) xs)

@@ -1,5 +1,7 @@
 -- An outline of m subpaths that is made, and lists lent for it: what is still tested, answered and left. Assumes nothing.
-use Rattle.std.specs.Prelude.{ℕ, List, length, Float}
+use Rattle.std.specs.Prelude.{ℕ, List, length, Float, Result}
+use Rattle.refusal.specs.declared.Refusal.{Refusal}
+use Rattle.refusal.specs.declared.Reason.TheVariants.{Output, Made}
 use Rattle.refusal.specs.Order.{holds, judge, Verdict, accepted}
 use Rattle.path.specs.declared.anchor.Anchor.{Anchor}
 use Rattle.call.specs.declared.answers.Outline.{Outline}
@@ -7,9 +9,9 @@ use Rattle.call.specs.Tests.{outline_limit, room_for}
 use Rattle.call.specs.Answers.{outline_answer, list_left, anchors_left}
 
 unfoldable pub made_verdict : ℕ → List Anchor → List ℕ → List Float → Verdict
-made_verdict m ps to_shapes to = judge (outline_limit ps) 9 (judge (holds (room_for m (length ps) to_shapes to) 0) 8 accepted)
+made_verdict m ps to_shapes to = judge (outline_limit ps) Made (judge (holds (room_for m (length ps) to_shapes to) 0) Output accepted)
 
-unfoldable pub made_answer : ℕ → List Anchor → List ℕ → List Float → Outline
+unfoldable pub made_answer : ℕ → List Anchor → List ℕ → List Float → Result Outline Refusal
 made_answer m ps to_shapes to = outline_answer (made_verdict m ps to_shapes to) m (length ps)
 
 -- its shape words are f 0, .., f (m - 1)

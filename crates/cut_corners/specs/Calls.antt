@@ -1,13 +1,12 @@
 -- What `cut_corners` answers, and what it leaves in the lists lent to it (document 01, 'Plain cut'). Assumes nothing.
-use Rattle.std.specs.Prelude.{ℕ, List, [], length, Float}
+use Rattle.std.specs.Prelude.{ℕ, List, [], length, Float, Option, Some, None, Result}
+use Rattle.refusal.specs.declared.Refusal.{Refusal}
 use Rattle.refusal.specs.Order.{passes, holds, Verdict, verdict, tests}
 use Rattle.path.specs.declared.anchor.Anchor.{Anchor}
 use Rattle.call.specs.declared.answers.Outline.{Outline}
 use Rattle.call.specs.Tests.{drawing_fits, drawing_limit, outline_limit, room_for}
 use Rattle.call.specs.Answers.{outline_answer, list_left, anchors_left}
-use Rattle.std.specs.Prelude.{Option}
 use Rattle.corner.specs.declared.kind.CornerKind.{CornerKind}
-use Rattle.std.specs.Prelude.{Some, None}
 use Rattle.corner.specs.Kinds.{kind_of, is_known}
 use Rattle.cut_calls.specs.PlainCut.{view_at, cut_up_to, cut_shape}
 
@@ -34,7 +33,7 @@ cut_verdict shapes anchors radii kind to_shapes to =
     (outline_limit ps)
     (holds (room_for (length shapes) (length ps) to_shapes to) 0))
 
-unfoldable pub cut_answer : List ℕ → List Float → List Float → ℕ → List ℕ → List Float → Outline
+unfoldable pub cut_answer : List ℕ → List Float → List Float → ℕ → List ℕ → List Float → Result Outline Refusal
 cut_answer shapes anchors radii kind to_shapes to =
     outline_answer (cut_verdict shapes anchors radii kind to_shapes to) (length shapes) (length (cut_outline shapes anchors radii (kind_of kind)))
 

@@ -7,6 +7,8 @@ use native.Mathlib.Omega.{arith}
 use lib.ListN.{length, get_or}
 use lib.Ieee.{Float}
 use Rattle.views.specs.View.{overwrite}
+use Rattle.refusal.specs.Reasons.{refusal_at}
+use Rattle.refusal.specs.declared.Reason.TheVariants.{Output, Made}
 use Rattle.refusal.specs.Order.{passes, holds, judge, accepted, refused}
 use Rattle.path.specs.declared.anchor.Anchor.{Anchor}
 use Rattle.path.proofs.Limits.{GoodBelow, Least}
@@ -16,12 +18,12 @@ use Rattle.call.proofs.Handings.{room, few_numbers}
 use Rattle.edit.specs.Split.{made_verdict}
 
 module _ (made : List Anchor) (shapes : List ℕ) (anchors : List Float) where
-  pub made_bad : (k : ℕ) → Least (outline_in made) (length made) k → made_verdict made shapes anchors ≡ refused 9 k
+  pub made_bad : (k : ℕ) → Least (outline_in made) (length made) k → made_verdict made shapes anchors ≡ refused (refusal_at Made k)
   unfolding made_verdict outline_limit judge
   made_bad k l = rw (places_fail (outline_in made) (length made) passes k l)
 
   module _ (good : GoodBelow (outline_in made) (length made)) where
-    pub made-short : length anchors < length made * 6 → made_verdict made shapes anchors ≡ refused 8 0
+    pub made-short : length anchors < length made * 6 → made_verdict made shapes anchors ≡ refused (refusal_at Output 0)
     unfolding made_verdict outline_limit judge holds
     made-short h = rw (places_pass (outline_in made) (length made) passes good, few_numbers (length shapes) (length made) shapes anchors h)
 

@@ -10,16 +10,17 @@ use lib.Ieee.{Float}
 use borrow.Author.Tests.{lt-ltb, le-ltb}
 use Rattle.views.proofs.Bools.{and_false}
 use Rattle.real.specs.Limit.{in_limit}
+use Rattle.refusal.specs.Reasons.{refusal_at}
+use Rattle.refusal.specs.declared.Refusal.{Refusal}
+use Rattle.refusal.specs.declared.Reason.TheVariants.{Arguments, Reference, Output, Made, Capacity}
 use Rattle.refusal.specs.Order.{passes, judge, refused}
 use Rattle.refusal.proofs.Verdicts.{holds_true, holds_false, in_order, by_arguments, by_reference, by_capacity}
 use Rattle.path.specs.declared.anchor.Anchor.{Anchor}
-use Rattle.std.proofs.Common.{Some, None}
+use Rattle.std.proofs.Common.{Some, None, Ok, Err}
 use Rattle.path.specs.Flat.{anchor_at}
 use Rattle.path.specs.Shape.{count_of, closed_of, total, word_at, start, is_segment, next}
 use Rattle.path.specs.Limit.{anchor_in, first_bad}
 use Rattle.path.proofs.Limits.{GoodBelow, Least, first_is, none_is, good_cong, least_cong}
-use Rattle.call.specs.declared.answers.Outline.TheVariants.{Refused, Accepted}
-use Rattle.call.specs.declared.opening.Opened.TheVariants as opened
 use Rattle.call.specs.Tests.{outline_in, path_limit, opened_path}
 use Rattle.call.specs.Answers.{outline_answer, list_left, anchors_left}
 use Rattle.call.proofs.Openings.{PathOpens, path_refused}
@@ -36,14 +37,14 @@ module _ (shapes : List ℕ) (xs : List Float) (n s a b : ℕ) (t : Float) where
   abbrev bounded : ℕ → Bool
   bounded = puts_within (halves (anchor_at xs a) (anchor_at xs b) t) a (shifted a b)
 
-  pub between-refused : (c k : ℕ) → made_verdict made shapes xs ≡ refused c k
-      → (Refused c k ≡ outline_answer (made_verdict made shapes xs) (length shapes) (n + 1))
+  pub between-refused : (why : Refusal) → made_verdict made shapes xs ≡ refused why
+      → (Err why ≡ outline_answer (made_verdict made shapes xs) (length shapes) (n + 1))
       × (shapes ≡ list_left (made_verdict made shapes xs) (length shapes) (word_at (split_shapes shapes s)) shapes)
       × (xs ≡ anchors_left (made_verdict made shapes xs) made xs)
-  between-refused c k e = (outline-refused _ _ e, list_kept _ _ _ e, anchors_kept _ _ e)
+  between-refused why e = (outline-refused _ _ e, list_kept _ _ _ e, anchors_kept _ _ e)
 
   module _ (la : a < n) (good : GoodBelow (anchor_in xs) n) where
-    pub between_bad : (k : ℕ) → first_bad bounded (n + 1) ≡ Some k → made_verdict made shapes xs ≡ refused 9 k
+    pub between_bad : (k : ℕ) → first_bad bounded (n + 1) ≡ Some k → made_verdict made shapes xs ≡ refused (refusal_at Made k)
     between_bad k e =
         let l : Least (outline_in made) (n + 1) k = least_cong bounded (outline_in made) (n + 1) (λ j h. sym (split-within xs n a b t la good j h)) k ((first_is bounded (n + 1) k).0 e) in
         made_bad made shapes xs k (rw (length-split xs n a b t) l)
@@ -52,11 +53,11 @@ module _ (shapes : List ℕ) (xs : List Float) (n s a b : ℕ) (t : Float) where
     all_good e =
         rw (length-split xs n a b t) (good_cong bounded (outline_in made) (n + 1) (λ j h. sym (split-within xs n a b t la good j h)) ((none_is bounded (n + 1)).0 e))
 
-    pub between-short : first_bad bounded (n + 1) ≡ None → length xs < n * 6 + 6 → made_verdict made shapes xs ≡ refused 8 0
+    pub between-short : first_bad bounded (n + 1) ≡ None → length xs < n * 6 + 6 → made_verdict made shapes xs ≡ refused (refusal_at Output 0)
     between-short e h = made-short made shapes xs (all_good e) (let w = length-split xs n a b t in omega arith)
 
     pub between_accepted : (e : first_bad bounded (n + 1) ≡ None) (p : a ≡ b → ⊥) (lb : b < n) (room : n * 6 + 6 ≤ length xs)
-        → (Accepted (length shapes) (n + 1) ≡ outline_answer (made_verdict made shapes xs) (length shapes) (n + 1))
+        → (Ok (record { subpaths = length shapes; anchors = n + 1 }) ≡ outline_answer (made_verdict made shapes xs) (length shapes) (n + 1))
         × (split_shapes shapes s ≡ list_left (made_verdict made shapes xs) (length shapes) (word_at (split_shapes shapes s)) shapes)
         × (stored xs n a b t p la lb room ≡ anchors_left (made_verdict made shapes xs) made xs)
     unfolding split_shapes
@@ -69,17 +70,17 @@ module _ (shapes : List ℕ) (xs : List Float) (n s a b : ℕ) (t : Float) where
 
 -- ---- the tests before those
 module _ (shapes : List ℕ) (anchors : List Float) (s a : ℕ) (t : Float) where
-  pub split-refused : (c k : ℕ) → split_verdict shapes anchors s a t ≡ refused c k
-      → (Refused c k ≡ split_answer shapes anchors s a t) × (shapes ≡ split_shapes_left shapes anchors s a t) × (anchors ≡ split_anchors_left shapes anchors s a t)
+  pub split-refused : (why : Refusal) → split_verdict shapes anchors s a t ≡ refused why
+      → (Err why ≡ split_answer shapes anchors s a t) × (shapes ≡ split_shapes_left shapes anchors s a t) × (anchors ≡ split_anchors_left shapes anchors s a t)
   unfolding split_answer split_shapes_left split_anchors_left
-  split-refused c k e = (outline-refused _ _ e, list_kept _ _ _ e, anchors_kept _ _ e)
+  split-refused why e = (outline-refused _ _ e, list_kept _ _ _ e, anchors_kept _ _ e)
 
-  pub not_opened : (c k : ℕ) → opened_path 512 shapes anchors ≡ opened.Refused c k → split_verdict shapes anchors s a t ≡ refused c k
+  pub not_opened : (why : Refusal) → opened_path 512 shapes anchors ≡ Err why → split_verdict shapes anchors s a t ≡ refused why
   unfolding split_verdict
-  not_opened c k e = in_order _ _ _ _ _ _ ∙ path_refused 512 shapes anchors c k e (in_limit t) _
+  not_opened why e = in_order _ _ _ _ _ _ ∙ path_refused 512 shapes anchors why e (in_limit t) _
 
 module _ (shapes : List ℕ) (anchors : List Float) (n : ℕ) (o : PathOpens 512 shapes anchors n) (s a : ℕ) (t : Float) where
-  pub no_parameter : in_limit t ≡ false → split_verdict shapes anchors s a t ≡ refused 5 n
+  pub no_parameter : in_limit t ≡ false → split_verdict shapes anchors s a t ≡ refused (refusal_at Arguments n)
   unfolding split_verdict
   no_parameter e = rw o.count (by_arguments _ _ _ _ _ _ o.lists_pass (total shapes) (o.places_good (in_limit t) ∙ holds_false (total shapes) e))
 
@@ -99,12 +100,12 @@ module _ (shapes : List ℕ) (anchors : List Float) (n : ℕ) (o : PathOpens 512
     arguments_pass : path_limit shapes anchors (in_limit t) ≡ passes
     arguments_pass = o.places_good (in_limit t) ∙ holds_true (total shapes) g
 
-    pub unknown : has_segment shapes s a ≡ false → split_verdict shapes anchors s a t ≡ refused 6 0
+    pub unknown : has_segment shapes s a ≡ false → split_verdict shapes anchors s a t ≡ refused (refusal_at Reference 0)
     unfolding split_verdict
     unknown e = by_reference _ _ _ _ _ _ o.lists_pass arguments_pass 0 (holds_false 0 e)
 
     module _ (e : has_segment shapes s a ≡ true) where
-      pub full : 512 ≤ n → split_verdict shapes anchors s a t ≡ refused 10 0
+      pub full : 512 ≤ n → split_verdict shapes anchors s a t ≡ refused (refusal_at Capacity 0)
       unfolding split_verdict
       full h = by_capacity _ _ _ _ _ _ o.lists_pass arguments_pass (holds_true 0 e) 0 (holds_false 0 (le-ltb (total shapes) 512 (let w = o.count in omega arith)))
 

@@ -9,9 +9,13 @@ use lib.Dec.{leb}
 use lib.ListN.{length}
 use lib.Ieee.{Float, nan}
 use borrow.Author.Tests.{lt-ltb, le-ltb, le-leb, lt-leb}
+use Rattle.std.proofs.Common.{Ok, Err}
 use Rattle.views.specs.View.{entry, tabulate}
 use Rattle.views.proofs.Bools.{and_false}
 use Rattle.views.proofs.Laws.{order, same, length-tabulate, at_tabulate, as_overwrite}
+use Rattle.refusal.specs.Reasons.{refusal_at}
+use Rattle.refusal.specs.declared.Refusal.{Refusal}
+use Rattle.refusal.specs.declared.Reason.TheVariants.{Reference}
 use Rattle.refusal.specs.Order.{accepted, refused}
 use Rattle.refusal.proofs.Verdicts.{holds_true, holds_false, in_order, by_reference, by_none}
 use Rattle.geom.specs.Point.{point}
@@ -19,8 +23,6 @@ use Rattle.path.specs.Anchor.{without_handles}
 use Rattle.path.specs.Flat.{anchor_at, numbers, anchor_numbers, put_anchor, nth, listed}
 use Rattle.path.specs.Shape.{count_of, total, word_at, start}
 use Rattle.path.proofs.Places.{numbers_at, length-put, at_put, at_put_other}
-use Rattle.call.specs.declared.answers.Outline.TheVariants.{Refused, Accepted}
-use Rattle.call.specs.declared.opening.Opened.TheVariants as opened
 use Rattle.call.specs.Tests.{opened_drawing}
 use Rattle.call.proofs.Openings.{DrawingOpens, drawing-refused}
 use Rattle.call.proofs.Handings.{outline-refused, outline_accepted, anchors_kept, anchors_written}
@@ -103,16 +105,16 @@ module _ (xs : List Float) (first n : ℕ) where
 
 -- ---- the answers
 module _ (shapes : List ℕ) (anchors radii : List Float) (s : ℕ) where
-  pub reversed-refused : (c k : ℕ) → reversed_verdict shapes anchors radii s ≡ refused c k → (Refused c k ≡ reversed_answer shapes anchors radii s) × (anchors ≡ reversed_left shapes anchors radii s)
+  pub reversed-refused : (why : Refusal) → reversed_verdict shapes anchors radii s ≡ refused why → (Err why ≡ reversed_answer shapes anchors radii s) × (anchors ≡ reversed_left shapes anchors radii s)
   unfolding reversed_answer reversed_left
-  reversed-refused c k e = (outline-refused _ _ e, anchors_kept _ _ e)
+  reversed-refused why e = (outline-refused _ _ e, anchors_kept _ _ e)
 
-  pub not_opened : (c k : ℕ) → opened_drawing shapes anchors radii ≡ opened.Refused c k → reversed_verdict shapes anchors radii s ≡ refused c k
+  pub not_opened : (why : Refusal) → opened_drawing shapes anchors radii ≡ Err why → reversed_verdict shapes anchors radii s ≡ refused why
   unfolding reversed_verdict
-  not_opened c k e = in_order _ _ _ _ _ _ ∙ drawing-refused shapes anchors radii c k e true _
+  not_opened why e = in_order _ _ _ _ _ _ ∙ drawing-refused shapes anchors radii why e true _
 
   module _ (n : ℕ) (o : DrawingOpens shapes anchors radii n) where
-    pub no_subpath : length shapes ≤ s → reversed_verdict shapes anchors radii s ≡ refused 6 0
+    pub no_subpath : length shapes ≤ s → reversed_verdict shapes anchors radii s ≡ refused (refusal_at Reference 0)
     unfolding reversed_verdict
     no_subpath h =
         by_reference _ _ _ _ _ _ o.lists_pass (o.places_good true ∙ holds_true (total shapes) refl) 0 (holds_false 0 (le-ltb s (length shapes) h))
@@ -123,8 +125,8 @@ module _ (shapes : List ℕ) (anchors radii : List Float) (s : ℕ) where
         by_none _ _ _ _ _ _ o.lists_pass (o.places_good true ∙ holds_true (total shapes) refl) (holds_true 0 (lt-ltb s (length shapes) h)) refl refl refl
 
     pub reversed_accepted : s < length shapes → (first count : ℕ) → first ≡ start shapes s → count ≡ count_of (word_at shapes s)
-        → (Accepted (length shapes) n ≡ reversed_answer shapes anchors radii s)
+        → (Ok (record { subpaths = length shapes; anchors = n }) ≡ reversed_answer shapes anchors radii s)
         × (listed (tabulate n (reversed_anchors (anchor_at anchors) first count)) anchors ≡ reversed_left shapes anchors radii s)
     unfolding reversed_answer reversed_left reversed_path
     reversed_accepted h first count e f =
-        (ap (Accepted (length shapes)) o.count ∙ outline_accepted _ _ (found h), rw (e, f, o.count) (anchors_written _ _ (found h)))
+        (rw o.count (outline_accepted _ _ (found h)), rw (e, f, o.count) (anchors_written _ _ (found h)))

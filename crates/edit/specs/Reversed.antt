@@ -1,6 +1,7 @@
 -- `reversed`: the anchors of a subpath in the other direction, its handles on the other sides. Assumes nothing.
-use Rattle.std.specs.Prelude.{ℕ, ◌+◌, ◌-◌, true, ◌&&◌, cond, List, leb, ltb, length, Float}
+use Rattle.std.specs.Prelude.{ℕ, ◌+◌, ◌-◌, true, ◌&&◌, cond, List, leb, ltb, length, Float, Result}
 use Rattle.views.specs.View.{tabulate}
+use Rattle.refusal.specs.declared.Refusal.{Refusal}
 use Rattle.refusal.specs.Order.{passes, holds, Verdict, verdict, tests}
 use Rattle.path.specs.declared.anchor.Anchor.{Anchor}
 use Rattle.path.specs.Flat.{anchor_at}
@@ -33,7 +34,7 @@ reversed_verdict shapes anchors radii s =
     passes
     passes)
 
-unfoldable pub reversed_answer : List ℕ → List Float → List Float → ℕ → Outline
+unfoldable pub reversed_answer : List ℕ → List Float → List Float → ℕ → Result Outline Refusal
 reversed_answer shapes anchors radii s = outline_answer (reversed_verdict shapes anchors radii s) (length shapes) (total shapes)
 
 unfoldable pub reversed_left : List ℕ → List Float → List Float → ℕ → List Float

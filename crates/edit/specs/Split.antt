@@ -1,9 +1,11 @@
 -- `split`: a segment cut in two by de Casteljau's subdivision, the new anchor put at the index after the segment's start. Assumes nothing.
-use Rattle.std.specs.Prelude.{ℕ, ◌+◌, Bool, true, ◌&&◌, cond, List, ltb, eqb, length, set, Float}
+use Rattle.std.specs.Prelude.{ℕ, ◌+◌, Bool, true, ◌&&◌, cond, List, ltb, eqb, length, set, Float, Result}
 use Rattle.views.specs.View.{tabulate}
 use Rattle.real.specs.Limit.{in_limit}
 use Rattle.geom.specs.Flat.{pt}
 use Rattle.cubic.specs.Cubic.{split_cubic}
+use Rattle.refusal.specs.declared.Refusal.{Refusal}
+use Rattle.refusal.specs.declared.Reason.TheVariants.{Output, Made}
 use Rattle.refusal.specs.Order.{holds, judge, Verdict, accepted, verdict, tests}
 use Rattle.path.specs.declared.anchor.Anchor.{Anchor}
 use Rattle.path.specs.Anchor.{segment}
@@ -68,9 +70,9 @@ split_verdict shapes anchors s a t =
 
 -- the last two tests, of a path that was made in place
 unfoldable pub made_verdict : List Anchor → List ℕ → List Float → Verdict
-made_verdict made shapes anchors = judge (outline_limit made) 9 (judge (holds (room_for (length shapes) (length made) shapes anchors) 0) 8 accepted)
+made_verdict made shapes anchors = judge (outline_limit made) Made (judge (holds (room_for (length shapes) (length made) shapes anchors) 0) Output accepted)
 
-unfoldable pub split_answer : List ℕ → List Float → ℕ → ℕ → Float → Outline
+unfoldable pub split_answer : List ℕ → List Float → ℕ → ℕ → Float → Result Outline Refusal
 split_answer shapes anchors s a t = outline_answer (split_verdict shapes anchors s a t) (length shapes) (total shapes + 1)
 
 unfoldable pub split_shapes_left : List ℕ → List Float → ℕ → ℕ → Float → List ℕ

@@ -2,12 +2,11 @@
 ghost use Rattle.std.specs.Prelude.{◌≡◌, ◌+◌, ◌*◌, ◌≤◌, length};
 ghost use Rattle.views.specs.View.{tabulate};
 ghost use Rattle.path.specs.Flat.{anchor_at, put_anchor, listed};
-ghost use Rattle.call.specs.declared.opening.Opened.TheVariants.{Anchors};
-ghost use Rattle.call.specs.Tests.{opened_drawing};
 ghost use Rattle.edit.specs.Reversed.{turned, reversed_anchors, reversed_answer, reversed_left};
 
-use call::{Opened, Outline};
+use call::Outline;
 use path::Anchor;
+use refusal::{Reason, Refusal};
 
 // An anchor passed the other way: its handles change sides.
 pub fn turned(a: Anchor) -> Anchor
@@ -43,20 +42,19 @@ fn turn_round(anchors: &mut [f64], all: usize, first: usize, n: usize)
     }
 }
 
-// Of a drawing of n anchors that passed 7 and 5.
-fn reversed_opened(
+// The anchors of subpath s of a drawing in the other direction. The radii keep their order.
+pub fn reversed(
     shapes: &[u32],
     anchors: &mut [f64],
     radii: &[f64],
-    n: usize,
     s: usize,
-) -> Outline
-    requires { opened_drawing shapes.now anchors.old radii.now ≡ Anchors n }
+) -> Result<Outline, Refusal>
     ensures answer { result ≡ reversed_answer shapes.now anchors.old radii.now s }
     ensures anchors { anchors.new ≡ reversed_left shapes.now anchors.old radii.now s }
 {
+    let n = call::open_drawing(shapes, anchors, radii)?;
     if shapes.len() <= s {
-        return Outline::Refused(refusal::REFERENCE, 0);
+        return Err(Reason::Reference.at(0));
     }
     turn_round(
         anchors,
@@ -64,16 +62,8 @@ fn reversed_opened(
         path::start_of(shapes, s),
         path::count_of(shapes[s]),
     );
-    Outline::Accepted(shapes.len(), n)
-}
-
-// The anchors of subpath s of a drawing in the other direction. The radii keep their order.
-pub fn reversed(shapes: &[u32], anchors: &mut [f64], radii: &[f64], s: usize) -> Outline
-    ensures answer { result ≡ reversed_answer shapes.now anchors.old radii.now s }
-    ensures anchors { anchors.new ≡ reversed_left shapes.now anchors.old radii.now s }
-{
-    match call::open_drawing(shapes, anchors, radii) {
-        Opened::Refused(c, k) => Outline::Refused(c, k),
-        Opened::Anchors(n) => reversed_opened(shapes, anchors, radii, n, s),
-    }
+    Ok(Outline {
+        subpaths: shapes.len(),
+        anchors: n,
+    })
 }

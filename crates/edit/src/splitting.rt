@@ -4,15 +4,14 @@ ghost use Rattle.path.specs.Flat.{put_anchor};
 ghost use Rattle.path.specs.Shape.{count_of, word_at, start};
 ghost use Rattle.path.specs.Limit.{anchor_in, first_bad};
 ghost use Rattle.path.proofs.Limits.{GoodBelow};
-ghost use Rattle.call.specs.declared.opening.Opened.TheVariants.{Anchors};
-ghost use Rattle.call.specs.Tests.{opened_path};
 ghost use Rattle.call.specs.Answers.{outline_answer, list_left, anchors_left};
 ghost use Rattle.edit.specs.Gap.{gapped};
 ghost use Rattle.edit.specs.Split.{shifted, halves, puts_within, split_places, split_shapes, made_verdict, split_answer, split_shapes_left, split_anchors_left};
 
 use crate::gap::shift_up;
-use call::{Opened, Outline};
+use call::Outline;
 use path::Anchor;
+use refusal::{Reason, Refusal};
 
 // The ends of a split segment, and the anchor between them.
 #[derive(Clone, Copy, Debug, PartialEq)]
@@ -99,7 +98,7 @@ fn split_between(
     a: usize,
     b: usize,
     t: f64,
-) -> Outline
+) -> Result<Outline, Refusal>
     requires { (s < length shapes.old) × (count_of (word_at shapes.old s) < 512) × (n < 512) × (n * 6 ≤ length anchors.old) × (a < n) × (b < n) × (a ≡ b → ⊥) × GoodBelow (anchor_in anchors.old) n }
     ensures answer { result ≡ outline_answer (made_verdict (split_places anchors.old n a b t) shapes.old anchors.old) (length shapes.old) (n + 1) }
     ensures shapes { shapes.new ≡ list_left (made_verdict (split_places anchors.old n a b t) shapes.old anchors.old) (length shapes.old) (word_at (split_shapes shapes.old s)) shapes.old }
@@ -107,56 +106,46 @@ fn split_between(
 {
     let h = halves(path::anchor_at(anchors, a), path::anchor_at(anchors, b), t);
     if let Some(k) = first_out(h, a, shifted(a, b)) {
-        return Outline::Refused(refusal::RESULT, k);
+        return Err(Reason::Made.at(k));
     }
     if anchors.len() < n * 6 + 6 {
-        return Outline::Refused(refusal::OUTPUT, 0);
+        return Err(Reason::Output.at(0));
     }
     put_halves(anchors, n, a, b, h);
     count_up(shapes, s);
-    Outline::Accepted(shapes.len(), n + 1)
+    Ok(Outline {
+        subpaths: shapes.len(),
+        anchors: n + 1,
+    })
 }
 
-// Of a path of n anchors that passed 7 and 5.
-fn split_opened(
+// Cuts the segment of subpath s that starts at anchor a in two, at t.
+pub fn split(
     shapes: &mut [u32],
     anchors: &mut [f64],
-    n: usize,
     s: usize,
     a: usize,
     t: f64,
-) -> Outline
-    requires { opened_path 512 shapes.old anchors.old ≡ Anchors n }
+) -> Result<Outline, Refusal>
     ensures answer { result ≡ split_answer shapes.old anchors.old s a t }
     ensures shapes { shapes.new ≡ split_shapes_left shapes.old anchors.old s a t }
     ensures anchors { anchors.new ≡ split_anchors_left shapes.old anchors.old s a t }
 {
+    let n = call::open_path(512, shapes, anchors)?;
     if !real::in_limit(t) {
-        return Outline::Refused(refusal::ARGUMENTS, n);
+        return Err(Reason::Arguments.at(n));
     }
     if shapes.len() <= s {
-        return Outline::Refused(refusal::REFERENCE, 0);
+        return Err(Reason::Reference.at(0));
     }
     let count = path::count_of(shapes[s]);
     if !path::has_segment(count, path::closed_of(shapes[s]), a) {
-        return Outline::Refused(refusal::REFERENCE, 0);
+        return Err(Reason::Reference.at(0));
     }
     if n >= 512 {
-        return Outline::Refused(refusal::CAPACITY, 0);
+        return Err(Reason::Capacity.at(0));
     }
     let first = path::start_of(shapes, s);
     let b = first + path::next(count, a);
     split_between(shapes, anchors, n, s, first + a, b, t)
-}
-
-// Cuts the segment of subpath s that starts at anchor a in two, at t.
-pub fn split(shapes: &mut [u32], anchors: &mut [f64], s: usize, a: usize, t: f64) -> Outline
-    ensures answer { result ≡ split_answer shapes.old anchors.old s a t }
-    ensures shapes { shapes.new ≡ split_shapes_left shapes.old anchors.old s a t }
-    ensures anchors { anchors.new ≡ split_anchors_left shapes.old anchors.old s a t }
-{
-    match call::open_path(512, shapes, anchors) {
-        Opened::Refused(c, k) => Outline::Refused(c, k),
-        Opened::Anchors(n) => split_opened(shapes, anchors, n, s, a, t),
-    }
 }

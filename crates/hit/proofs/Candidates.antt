@@ -9,17 +9,18 @@ use lib.ListN.{length}
 use lib.Ieee.{Float, is_nan, le}
 use Rattle.geom.specs.declared.point.P.{P}
 use Rattle.geom.specs.Point.{len}
-use Rattle.refusal.specs.Order.{accepted, refused}
-use Rattle.std.proofs.Common.{Some, None}
+use Rattle.std.proofs.Common.{Ok, Err, Some, None}
+use Rattle.refusal.specs.declared.Refusal.{Refusal}
+use Rattle.refusal.specs.Order.{accepted, refused, answering}
+use Rattle.refusal.proofs.Verdicts.{answers_err}
 use Rattle.path.specs.Flat.{curve_of}
 use Rattle.path.specs.Shape.{count_of, closed_of, total, word_at, start, sub_of, is_segment}
 use Rattle.hit.specs.declared.best.Best.{Best}
 use Rattle.path.specs.declared.shape.AnchorRef.{AnchorRef}
-use Rattle.hit.specs.declared.segments.HitSegment.TheVariants as segment
 use Rattle.hit.specs.Located.{index_of, located}
 use Rattle.hit.specs.Steps.{step_offset, step_parameter, word_over, starts_at, curve_from, chord_distance, chord_within, nearest_chord}
 use Rattle.hit.specs.Tried.{tried, tried_from}
-use Rattle.hit.specs.Calls.{hit_verdict, segment_answer, hit_segment_answer}
+use Rattle.hit.specs.Calls.{hit_verdict, chord_at, hit_segment_answer}
 use Rattle.real.proofs.Orders.{le-number}
 use Rattle.hit.proofs.Subpaths.{sub_at_lem, index_at, placed}
 use Rattle.hit.proofs.Walked.{Stands, stands_skipped, stands-tried}
@@ -98,25 +99,25 @@ module _ (shapes : List ℕ) (anchors : List Float) (N : ℕ) (q : P) (tol : Flo
 
 -- ---- the answer
 module _ (shapes : List ℕ) (anchors : List Float) (q : P) where
-  pub chord-answer : (i : ℕ) → i / 48 < total shapes → (o : AnchorRef) (c : List P) (t : Float) → o ≡ located shapes (i / 48)
+  pub chord_is : (i : ℕ) → i / 48 < total shapes → (o : AnchorRef) (c : List P) (t : Float) → o ≡ located shapes (i / 48)
       → c ≡ curve_of anchors (i / 48 - o.anchor) (count_of (word_at shapes o.subpath)) o.anchor → t ≡ step_parameter 48 q c (i % 48)
-      → segment.At o.subpath o.anchor t ≡ segment_answer 48 shapes anchors q accepted (Some i)
-  unfolding segment_answer curve_from word_over located
-  chord-answer i h o c t o_is c-is t-is =
+      → record { subpath = o.subpath; anchor = o.anchor; t = t } ≡ chord_at 48 shapes anchors q i
+  unfolding chord_at curve_from word_over located
+  chord_is i h o c t o_is c-is t-is =
       let p = (placed shapes (i / 48) h).place in
       let e : i / 48 - index_of shapes (i / 48) ≡ start shapes (sub_of shapes (i / 48)) = omega arith in
       rw (t-is, c-is, o_is, e)
 
 module _ (shapes : List ℕ) (anchors : List Float) (q : P) (tol : Float) where
-  pub segment-refused : (c k : ℕ) → hit_verdict shapes anchors q tol ≡ refused c k → segment.Refused c k ≡ hit_segment_answer shapes anchors q tol
-  unfolding hit_segment_answer segment_answer
-  segment-refused c k e = rw e
+  pub segment-refused : (why : Refusal) → hit_verdict shapes anchors q tol ≡ refused why → Err why ≡ hit_segment_answer shapes anchors q tol
+  unfolding hit_segment_answer
+  segment-refused why e = answers_err _ e
 
   module _ (p : hit_verdict shapes anchors q tol ≡ accepted) where
-    pub segment_missed : nearest_chord shapes anchors 48 q tol ≡ None → segment.Nothing ≡ hit_segment_answer shapes anchors q tol
-    unfolding hit_segment_answer segment_answer
+    pub segment_missed : nearest_chord shapes anchors 48 q tol ≡ None → Ok None ≡ hit_segment_answer shapes anchors q tol
+    unfolding hit_segment_answer answering
     segment_missed e = rw (p, e)
 
-    pub segment_found : (i : ℕ) → nearest_chord shapes anchors 48 q tol ≡ Some i → segment_answer 48 shapes anchors q accepted (Some i) ≡ hit_segment_answer shapes anchors q tol
-    unfolding hit_segment_answer
+    pub segment_found : (i : ℕ) → nearest_chord shapes anchors 48 q tol ≡ Some i → Ok (Some (chord_at 48 shapes anchors q i)) ≡ hit_segment_answer shapes anchors q tol
+    unfolding hit_segment_answer answering
     segment_found i e = rw (p, e)

@@ -1,19 +1,18 @@
 -- What the calls answer, after 000's `hit_anchor` and `hit_segment` (document 01, 'Edits, hits and shapes'). Assumes nothing.
-use Rattle.std.specs.Prelude.{ℕ, ◌/◌, ◌%◌, Bool, ◌&&◌, List, Float, Option, Some, None}
+use Rattle.std.specs.Prelude.{ℕ, ◌/◌, ◌%◌, Bool, ◌&&◌, List, Float, Result, Option, option_map}
 use Rattle.std.specs.Float.Ieee.{le}
 use Rattle.real.specs.Limit.{in_limit}
 use Rattle.geom.specs.declared.point.P.{P}
 use Rattle.geom.specs.Point.{minus, len}
-use Rattle.refusal.specs.Order.{passes, holds, Verdict, accepted, refused, verdict, tests}
+use Rattle.refusal.specs.declared.Refusal.{Refusal}
+use Rattle.refusal.specs.Order.{passes, holds, Verdict, verdict, tests, answering}
+use Rattle.path.specs.declared.shape.AnchorRef.{AnchorRef}
 use Rattle.path.specs.Shape.{total, sub_of}
 use Rattle.path.specs.Flat.{anchor_at}
 use Rattle.call.specs.Tests.{path_fits, path_limit}
-use Rattle.hit.specs.declared.anchors.HitAnchor.{HitAnchor}
-use Rattle.hit.specs.declared.anchors.HitAnchor.TheVariants as anchor
-use Rattle.hit.specs.declared.segments.HitSegment.{HitSegment}
-use Rattle.hit.specs.declared.segments.HitSegment.TheVariants as segment
+use Rattle.hit.specs.declared.segments.SegmentAt.{SegmentAt}
 use Rattle.hit.specs.Nearest.{nearest}
-use Rattle.hit.specs.Located.{index_of}
+use Rattle.hit.specs.Located.{index_of, located}
 use Rattle.hit.specs.Steps.{curve_from, step_parameter, nearest_chord}
 
 -- the loose arguments
@@ -32,20 +31,14 @@ anchor_distance anchors q k = len (minus (anchor_at anchors k).p q)
 unfoldable pub nearest_anchor : List Float → P → Float → ℕ → Option ℕ
 nearest_anchor anchors q tol n = nearest (λ k. le (anchor_distance anchors q k) tol) (anchor_distance anchors q) n
 
-unfoldable pub anchor_answer : Verdict → List ℕ → Option ℕ → HitAnchor
-anchor_answer (refused n place) shapes best = anchor.Refused n place
-anchor_answer accepted shapes None = anchor.Nothing
-anchor_answer accepted shapes (Some k) = anchor.At (sub_of shapes k) (index_of shapes k)
-
-unfoldable pub hit_anchor_answer : List ℕ → List Float → P → Float → HitAnchor
-hit_anchor_answer shapes anchors q tol = anchor_answer (hit_verdict shapes anchors q tol) shapes (nearest_anchor anchors q tol (total shapes))
+unfoldable pub hit_anchor_answer : List ℕ → List Float → P → Float → Result (Option AnchorRef) Refusal
+hit_anchor_answer shapes anchors q tol = answering (hit_verdict shapes anchors q tol) (option_map (located shapes) (nearest_anchor anchors q tol (total shapes)))
 
 -- ---- `hit_segment`, by N chords to a segment; 000 takes 48
-module _ (N : ℕ) (shapes : List ℕ) (anchors : List Float) (q : P) where
-  unfoldable pub segment_answer : Verdict → Option ℕ → HitSegment
-  segment_answer (refused n place) best = segment.Refused n place
-  segment_answer accepted None = segment.Nothing
-  segment_answer accepted (Some i) = segment.At (sub_of shapes (i / N)) (index_of shapes (i / N)) (step_parameter N q (curve_from shapes anchors (i / N)) (i % N))
+-- where chord i has its point nearest q
+unfoldable pub chord_at : ℕ → List ℕ → List Float → P → ℕ → SegmentAt
+chord_at N shapes anchors q i =
+    record { subpath = sub_of shapes (i / N); anchor = index_of shapes (i / N); t = step_parameter N q (curve_from shapes anchors (i / N)) (i % N) }
 
-unfoldable pub hit_segment_answer : List ℕ → List Float → P → Float → HitSegment
-hit_segment_answer shapes anchors q tol = segment_answer 48 shapes anchors q (hit_verdict shapes anchors q tol) (nearest_chord shapes anchors 48 q tol)
+unfoldable pub hit_segment_answer : List ℕ → List Float → P → Float → Result (Option SegmentAt) Refusal
+hit_segment_answer shapes anchors q tol = answering (hit_verdict shapes anchors q tol) (option_map (chord_at 48 shapes anchors q) (nearest_chord shapes anchors 48 q tol))

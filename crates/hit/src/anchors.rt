@@ -6,16 +6,9 @@ ghost use Rattle.hit.specs.Calls.{nearest_anchor, hit_anchor_answer};
 use crate::best::Best;
 use crate::located::locate;
 use crate::opening::open_hit;
-use call::Opened;
 use geom::P;
-
-// A refusal's number and place, nothing, or a subpath and an anchor of it.
-#[derive(Clone, Copy)]
-pub enum HitAnchor {
-    Refused(u32, usize),
-    Nothing,
-    At(usize, usize),
-}
+use path::AnchorRef;
+use refusal::Refusal;
 
 // The place of the nearest of n anchors.
 fn nearest_place(anchors: &[f64], n: usize, q: P, tol: f64) -> Option<usize>
@@ -31,17 +24,17 @@ fn nearest_place(anchors: &[f64], n: usize, q: P, tol: f64) -> Option<usize>
 }
 
 // The anchor nearest q, of those not farther than tol, the first on ties.
-pub fn hit_anchor(shapes: &[u32], anchors: &[f64], q: P, tol: f64) -> HitAnchor
+pub fn hit_anchor(
+    shapes: &[u32],
+    anchors: &[f64],
+    q: P,
+    tol: f64,
+) -> Result<Option<AnchorRef>, Refusal>
     ensures { result ≡ hit_anchor_answer shapes.now anchors.now q tol }
 {
-    match open_hit(shapes, anchors, q, tol) {
-        Opened::Refused(code, place) => HitAnchor::Refused(code, place),
-        Opened::Anchors(n) => match nearest_place(anchors, n, q, tol) {
-            None => HitAnchor::Nothing,
-            Some(k) => {
-                let at = locate(shapes, k);
-                HitAnchor::At(at.subpath, at.anchor)
-            }
-        },
+    let n = open_hit(shapes, anchors, q, tol)?;
+    match nearest_place(anchors, n, q, tol) {
+        Some(k) => Ok(Some(locate(shapes, k))),
+        None => Ok(None),
     }
 }

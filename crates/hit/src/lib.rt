@@ -8,5 +8,5 @@ mod located;
 mod opening;
 mod segments;
 
-pub use anchors::{HitAnchor, hit_anchor};
-pub use segments::{HitSegment, hit_segment};
+pub use anchors::hit_anchor;
+pub use segments::{SegmentAt, hit_segment};

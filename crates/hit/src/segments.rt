@@ -1,26 +1,25 @@
 // `hit_segment`: the point of a path nearest another, within a tolerance, by 48 chords to a segment.
-ghost use Rattle.std.specs.Prelude.{◌≡◌, true, ◌+◌, ◌*◌, ◌≤◌, ◌<◌, Some, length};
+ghost use Rattle.std.specs.Prelude.{◌≡◌, true, ◌+◌, ◌*◌, ◌≤◌, ◌<◌, length};
 ghost use Rattle.real.specs.Limit.{in_limit};
-ghost use Rattle.refusal.specs.Order.{accepted};
 ghost use Rattle.path.specs.Shape.{total};
 ghost use Rattle.hit.specs.Best.{Barred};
 ghost use Rattle.hit.specs.Steps.{step_offset, nearest_chord};
 ghost use Rattle.hit.specs.Tried.{tried, tried_from};
-ghost use Rattle.hit.specs.Calls.{segment_answer, hit_segment_answer};
+ghost use Rattle.hit.specs.Calls.{chord_at, hit_segment_answer};
 
 use crate::best::Best;
 use crate::chords::{offset, parameter};
 use crate::located::locate;
 use crate::opening::open_hit;
-use call::Opened;
 use geom::P;
+use refusal::Refusal;
 
-// A refusal's number and place, nothing, or a subpath, the anchor at which the segment starts, and the parameter along it.
-#[derive(Clone, Copy)]
-pub enum HitSegment {
-    Refused(u32, usize),
-    Nothing,
-    At(usize, usize, f64),
+// A subpath, the anchor at which the segment starts, and the parameter along it.
+#[derive(Clone, Copy, Debug, PartialEq)]
+pub struct SegmentAt {
+    pub subpath: usize,
+    pub anchor: usize,
+    pub t: f64,
 }
 
 // The best after the chords of a curve, candidates i to i + 47. Each point of the curve is computed once.
@@ -75,27 +74,34 @@ fn nearest_chord(shapes: &[u32], anchors: &[f64], q: P, tol: f64) -> Option<usiz
     best.nearest.map(|c| c.number)
 }
 
-// Chord i as an answer.
-fn hit_chord(shapes: &[u32], anchors: &[f64], q: P, i: usize) -> HitSegment
+// Where chord i has its point nearest q.
+fn chord_at(shapes: &[u32], anchors: &[f64], q: P, i: usize) -> SegmentAt
     requires { (i < total shapes.now * 48) × (total shapes.now ≤ 512) × (total shapes.now * 6 ≤ length anchors.now) }
-    ensures { result ≡ segment_answer 48 shapes.now anchors.now q accepted (Some i) }
+    ensures { result ≡ chord_at 48 shapes.now anchors.now q i }
 {
     let k = i / 48;
     let at = locate(shapes, k);
     let n = path::count_of(shapes[at.subpath]);
     let c = path::curve_at(anchors, k - at.anchor, n, at.anchor);
-    HitSegment::At(at.subpath, at.anchor, parameter(48, q, c, i % 48))
+    SegmentAt {
+        subpath: at.subpath,
+        anchor: at.anchor,
+        t: parameter(48, q, c, i % 48),
+    }
 }
 
 // The point of the path nearest q, where it is not farther than tol, the first on ties.
-pub fn hit_segment(shapes: &[u32], anchors: &[f64], q: P, tol: f64) -> HitSegment
+pub fn hit_segment(
+    shapes: &[u32],
+    anchors: &[f64],
+    q: P,
+    tol: f64,
+) -> Result<Option<SegmentAt>, Refusal>
     ensures { result ≡ hit_segment_answer shapes.now anchors.now q tol }
 {
-    match open_hit(shapes, anchors, q, tol) {
-        Opened::Refused(code, place) => HitSegment::Refused(code, place),
-        Opened::Anchors(_) => match nearest_chord(shapes, anchors, q, tol) {
-            None => HitSegment::Nothing,
-            Some(i) => hit_chord(shapes, anchors, q, i),
-        },
+    open_hit(shapes, anchors, q, tol)?;
+    match nearest_chord(shapes, anchors, q, tol) {
+        Some(i) => Ok(Some(chord_at(shapes, anchors, q, i))),
+        None => Ok(None),
     }
 }

@@ -10,15 +10,17 @@ use lib.Ieee.{Float}
 use borrow.Author.Tests.{lt-ltb, le-ltb, le-leb, lt-leb}
 use Rattle.views.specs.View.{tabulate, overwrite}
 use Rattle.views.proofs.Bools.{and_false}
+use Rattle.refusal.specs.Reasons.{refusal_at}
+use Rattle.refusal.specs.declared.Refusal.{Refusal}
+use Rattle.refusal.specs.declared.Reason.TheVariants.{Arguments, Reference, Lists, Output, Made, Capacity}
 use Rattle.refusal.specs.Order.{passes, fails, holds, accepted, refused}
 use Rattle.refusal.proofs.Verdicts.{holds_true, holds_false, by_lists, by_arguments, by_reference, by_capacity, by_result, by_output, by_none}
 use Rattle.path.specs.declared.anchor.Anchor.{Anchor}
-use Rattle.std.proofs.Common.{Some}
+use Rattle.std.proofs.Common.{Some, Ok, Err}
 use Rattle.path.specs.Shape.{count_of, word_of}
 use Rattle.path.specs.Flat.{anchor_at, listed}
 use Rattle.path.specs.Limit.{anchor_good, first_bad}
 use Rattle.path.proofs.Limits.{GoodBelow, first_is}
-use Rattle.call.specs.declared.answers.Outline.TheVariants.{Refused, Accepted}
 use Rattle.call.specs.Tests.{places, outline_limit, room_for}
 use Rattle.call.proofs.Openings.{places_fail, places_pass}
 use Rattle.call.proofs.Handings.{room, few_words, few_numbers, outline-refused, outline_accepted, list_kept, list_written, anchors_kept, anchors_written}
@@ -35,19 +37,19 @@ first_word w (x ∷ []) h = refl
 first_word w (x ∷ (y ∷ xs)) h = refl
 
 module _ (drawn : List Float) (count : ℕ) (target : List Float) (word : ℕ) (at_start : Bool) (to_shapes : List ℕ) (to : List Float) where
-  pub join-refused : (c k : ℕ) → join_verdict drawn count target word at_start to_shapes to ≡ refused c k
-      → (Refused c k ≡ join_answer drawn count target word at_start to_shapes to)
+  pub join-refused : (why : Refusal) → join_verdict drawn count target word at_start to_shapes to ≡ refused why
+      → (Err why ≡ join_answer drawn count target word at_start to_shapes to)
       × (to_shapes ≡ join_shapes_left drawn count target word at_start to_shapes to)
       × (to ≡ join_anchors_left drawn count target word at_start to_shapes to)
   unfolding join_answer join_shapes_left join_anchors_left
-  join-refused c k e = (outline-refused _ _ e, list_kept _ _ _ e, anchors_kept _ _ e)
+  join-refused why e = (outline-refused _ _ e, list_kept _ _ _ e, anchors_kept _ _ e)
 
   -- ---- 7
-  pub no_drawn : list_fits count drawn ≡ false → join_verdict drawn count target word at_start to_shapes to ≡ refused 7 0
+  pub no_drawn : list_fits count drawn ≡ false → join_verdict drawn count target word at_start to_shapes to ≡ refused (refusal_at Lists 0)
   unfolding join_verdict
   no_drawn e = by_lists _ _ _ _ _ _ 0 (holds_false 0 (ap (λ b. b && list_fits (count_of word) target) e))
 
-  pub no_target : list_fits (count_of word) target ≡ false → join_verdict drawn count target word at_start to_shapes to ≡ refused 7 0
+  pub no_target : list_fits (count_of word) target ≡ false → join_verdict drawn count target word at_start to_shapes to ≡ refused (refusal_at Lists 0)
   unfolding join_verdict
   no_target e = by_lists _ _ _ _ _ _ 0 (holds_false 0 (ap (λ b. list_fits count drawn && b) e ∙ and_false (list_fits count drawn)))
 
@@ -56,7 +58,7 @@ module _ (drawn : List Float) (count : ℕ) (target : List Float) (word : ℕ) (
     lists_pass = holds_true 0 (rw (fits count drawn few long, fits (count_of word) target few-t long-t))
 
     -- ---- 5
-    pub out_of_limit : (k : ℕ) → first_bad (either_in drawn count target) (count + count_of word) ≡ Some k → join_verdict drawn count target word at_start to_shapes to ≡ refused 5 k
+    pub out_of_limit : (k : ℕ) → first_bad (either_in drawn count target) (count + count_of word) ≡ Some k → join_verdict drawn count target word at_start to_shapes to ≡ refused (refusal_at Arguments k)
     unfolding join_verdict
     out_of_limit k e =
         by_arguments _ _ _ _ _ _ lists_pass k (places_fail (either_in drawn count target) (count + count_of word) passes k ((first_is (either_in drawn count target) (count + count_of word) k).0 e))
@@ -66,7 +68,7 @@ module _ (drawn : List Float) (count : ℕ) (target : List Float) (word : ℕ) (
       arguments_pass = places_pass (either_in drawn count target) (count + count_of word) passes good
 
       -- ---- 6
-      pub empty_target : count_of word ≡ 0 → join_verdict drawn count target word at_start to_shapes to ≡ refused 6 0
+      pub empty_target : count_of word ≡ 0 → join_verdict drawn count target word at_start to_shapes to ≡ refused (refusal_at Reference 0)
       unfolding join_verdict
       empty_target e = by_reference _ _ _ _ _ _ lists_pass arguments_pass 0 (holds_false 0 (le-ltb 0 (count_of word) (omega arith)))
 
@@ -79,7 +81,7 @@ module _ (drawn : List Float) (count : ℕ) (target : List Float) (word : ℕ) (
         all-of_them = length-joined drawn count target (count_of word) at_start some
 
         -- ---- 10
-        pub full : 512 < count - 1 + count_of word → join_verdict drawn count target word at_start to_shapes to ≡ refused 10 0
+        pub full : 512 < count - 1 + count_of word → join_verdict drawn count target word at_start to_shapes to ≡ refused (refusal_at Capacity 0)
         unfolding join_verdict
         full h =
             by_capacity _ _ _ _ _ _ lists_pass arguments_pass some_pass 0 (holds_false 0 (lt-leb (length (joined_path drawn count target word at_start)) 512 (let e = all-of_them in omega arith)))
@@ -98,7 +100,7 @@ module _ (drawn : List Float) (count : ℕ) (target : List Float) (word : ℕ) (
               places_fail _ _ passes (count - 1)
               (joint_out drawn count target (count_of word) at_start (drawn_good drawn count target (count_of word) good) (target_good drawn count target (count_of word) good) e)
 
-          pub joint_refused : anchor_good joint ≡ false → join_verdict drawn count target word at_start to_shapes to ≡ refused 9 (count - 1)
+          pub joint_refused : anchor_good joint ≡ false → join_verdict drawn count target word at_start to_shapes to ≡ refused (refusal_at Made (count - 1))
           unfolding join_verdict
           joint_refused e = by_result _ _ _ _ _ _ lists_pass arguments_pass some_pass capacity_pass (count - 1) (joint_fails e)
 
@@ -110,14 +112,14 @@ module _ (drawn : List Float) (count : ℕ) (target : List Float) (word : ℕ) (
                 (joint_in drawn count target (count_of word) at_start (drawn_good drawn count target (count_of word) good) (target_good drawn count target (count_of word) good) inside)
 
             -- ---- 8
-            no_room : room_for 1 (length (joined_path drawn count target word at_start)) to_shapes to ≡ false → join_verdict drawn count target word at_start to_shapes to ≡ refused 8 0
+            no_room : room_for 1 (length (joined_path drawn count target word at_start)) to_shapes to ≡ false → join_verdict drawn count target word at_start to_shapes to ≡ refused (refusal_at Output 0)
             unfolding join_verdict
             no_room r = by_output _ _ _ _ _ _ lists_pass arguments_pass some_pass capacity_pass result_pass 0 (holds_false 0 r)
 
-            pub short_shapes : length to_shapes < 1 → join_verdict drawn count target word at_start to_shapes to ≡ refused 8 0
+            pub short_shapes : length to_shapes < 1 → join_verdict drawn count target word at_start to_shapes to ≡ refused (refusal_at Output 0)
             short_shapes l = no_room (few_words 1 (length (joined_path drawn count target word at_start)) to_shapes to l)
 
-            pub short_anchors : length to < (count - 1 + count_of word) * 6 → join_verdict drawn count target word at_start to_shapes to ≡ refused 8 0
+            pub short_anchors : length to < (count - 1 + count_of word) * 6 → join_verdict drawn count target word at_start to_shapes to ≡ refused (refusal_at Output 0)
             short_anchors l = no_room (few_numbers 1 (length (joined_path drawn count target word at_start)) to_shapes to (let n = all-of_them in omega arith))
 
             -- ---- accepted
@@ -134,14 +136,14 @@ module _ (drawn : List Float) (count : ℕ) (target : List Float) (word : ℕ) (
               made-is before n j e f g = rw (e, f, g)
 
               pub join_accepted : (before n w : ℕ) (j : Anchor) → before ≡ count - 1 → n ≡ count_of word → j ≡ joint → w ≡ word_of (before + n) false
-                  → (Accepted 1 (before + n) ≡ join_answer drawn count target word at_start to_shapes to)
+                  → (Ok (record { subpaths = 1; anchors = before + n }) ≡ join_answer drawn count target word at_start to_shapes to)
                   × (set to_shapes 0 w ≡ join_shapes_left drawn count target word at_start to_shapes to)
                   × (listed (tabulate before (anchor_at drawn) ++ (j ∷ target_rest target n at_start)) to ≡ join_anchors_left drawn count target word at_start to_shapes to)
               unfolding join_answer join_shapes_left join_anchors_left
               join_accepted before n w j e f g q =
                   let v = verdict_accepted in
                   let s : before + n ≡ length (joined_path drawn count target word at_start) = let c = all-of_them in omega arith in (
-                    ap (Accepted 1) s ∙ outline_accepted _ _ v,
+                    rw s (outline_accepted _ _ v),
                     ap (set to_shapes 0) (q ∙ ap (λ i. word_of i false) s) ∙ first_word _ to_shapes (omega arith) ∙ list_written _ _ _ v,
                     ap (λ ps. listed ps to) (made-is before n j e f g) ∙ anchors_written _ _ v,
                   )

@@ -1,5 +1,6 @@
 -- What `join` answers, and what it leaves in the lists lent to it: refusals 7, 5, 6, 10, 9, 8. Assumes nothing.
-use Rattle.std.specs.Prelude.{ℕ, ◌+◌, ◌-◌, ◌*◌, Bool, false, ◌&&◌, cond, List, leb, ltb, length, Float}
+use Rattle.std.specs.Prelude.{ℕ, ◌+◌, ◌-◌, ◌*◌, Bool, false, ◌&&◌, cond, List, leb, ltb, length, Float, Result}
+use Rattle.refusal.specs.declared.Refusal.{Refusal}
 use Rattle.refusal.specs.Order.{passes, holds, Verdict, verdict, tests}
 use Rattle.path.specs.declared.anchor.Anchor.{Anchor}
 use Rattle.path.specs.Shape.{count_of, word_of}
@@ -33,7 +34,7 @@ join_verdict drawn count target word at_start to_shapes to =
     (outline_limit made)
     (holds (room_for 1 (length made) to_shapes to) 0))
 
-unfoldable pub join_answer : List Float → ℕ → List Float → ℕ → Bool → List ℕ → List Float → Outline
+unfoldable pub join_answer : List Float → ℕ → List Float → ℕ → Bool → List ℕ → List Float → Result Outline Refusal
 join_answer drawn count target word at_start to_shapes to =
     outline_answer (join_verdict drawn count target word at_start to_shapes to) 1 (length (joined_path drawn count target word at_start))
 

@@ -7,6 +7,7 @@ ghost use Rattle.joining.specs.Call.{either_in, join_answer, join_shapes_left, j
 use crate::anchors::{joint_of, put_joined, target_at};
 use crate::limits::{first_bad_either, list_fits};
 use call::Outline;
+use refusal::{Reason, Refusal};
 
 // Of two lists that passed 7 and 5.
 fn join_opened(
@@ -17,7 +18,7 @@ fn join_opened(
     at_start: bool,
     to_shapes: &mut [u32],
     to: &mut [f64],
-) -> Outline
+) -> Result<Outline, Refusal>
     requires { (count ≤ 512) × (count * 6 ≤ length drawn.now) × (count_of word ≤ 512) × (count_of word * 6 ≤ length target.now) × GoodBelow (either_in drawn.now count target.now) (count + count_of word) }
     ensures answer { result ≡ join_answer drawn.now count target.now word at_start to_shapes.old to.old }
     ensures shapes { to_shapes.new ≡ join_shapes_left drawn.now count target.now word at_start to_shapes.old to.old }
@@ -25,23 +26,26 @@ fn join_opened(
 {
     let n = path::count_of(word);
     if n == 0 {
-        return Outline::Refused(refusal::REFERENCE, 0);
+        return Err(Reason::Reference.at(0));
     }
     let before = count.saturating_sub(1);
     if before + n > 512 {
-        return Outline::Refused(refusal::CAPACITY, 0);
+        return Err(Reason::Capacity.at(0));
     }
     // The other anchors are those given, which passed 5.
     let joint = joint_of(drawn, count, target_at(target, n, at_start, 0));
     if !joint.in_limit() {
-        return Outline::Refused(refusal::RESULT, before);
+        return Err(Reason::Made.at(before));
     }
     if to_shapes.is_empty() || to.len() < (before + n) * 6 {
-        return Outline::Refused(refusal::OUTPUT, 0);
+        return Err(Reason::Output.at(0));
     }
     to_shapes[0] = path::word(before + n, false);
     put_joined(drawn, before, joint, target, n, at_start, to);
-    Outline::Accepted(1, before + n)
+    Ok(Outline {
+        subpaths: 1,
+        anchors: before + n,
+    })
 }
 
 // One open subpath: the drawn anchors, the last of which lands on an end of the target, and on through the target from there.
@@ -54,17 +58,17 @@ pub fn join(
     at_start: bool,
     to_shapes: &mut [u32],
     to: &mut [f64],
-) -> Outline
+) -> Result<Outline, Refusal>
     ensures answer { result ≡ join_answer drawn.now drawn_count target.now target_word at_start to_shapes.old to.old }
     ensures shapes { to_shapes.new ≡ join_shapes_left drawn.now drawn_count target.now target_word at_start to_shapes.old to.old }
     ensures anchors { to.new ≡ join_anchors_left drawn.now drawn_count target.now target_word at_start to_shapes.old to.old }
 {
     let n = path::count_of(target_word);
     if !list_fits(drawn_count, drawn) || !list_fits(n, target) {
-        return Outline::Refused(refusal::LISTS, 0);
+        return Err(Reason::Lists.at(0));
     }
     if let Some(k) = first_bad_either(drawn, drawn_count, target, n) {
-        return Outline::Refused(refusal::ARGUMENTS, k);
+        return Err(Reason::Arguments.at(k));
     }
     join_opened(
         drawn,

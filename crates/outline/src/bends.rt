@@ -3,9 +3,9 @@ ghost use Rattle.std.specs.Prelude.{◌≡◌, not, eqb};
 ghost use Rattle.geom.specs.Point.{point};
 ghost use Rattle.bend.specs.Edits.{smooth_answer, smooth_left, bend_answer, bend_left};
 ghost use Rattle.transform.specs.Call.{transform_answer, transform_shapes, transform_anchors};
-ghost use Rattle.answers.specs.Answers.{outline_code, outline_words};
+ghost use Rattle.answers.specs.Answers.{code, told, outline_words};
 
-use answers::outline_told;
+use answers::tell;
 use geom::P;
 
 #[unsafe(no_mangle)]
@@ -17,14 +17,13 @@ pub extern "C" fn outline_transform(
     to: &mut [f64],
     answer: &mut [u64; 4],
 ) -> u32
-    ensures code { result ≡ outline_code (transform_answer shapes.now anchors.now m.now to_shapes.old to.old) }
-    ensures answer { answer.new ≡ outline_words (transform_answer shapes.now anchors.now m.now to_shapes.old to.old) }
+    ensures code { result ≡ code (transform_answer shapes.now anchors.now m.now to_shapes.old to.old) }
+    ensures answer { answer.new ≡ told outline_words (transform_answer shapes.now anchors.now m.now to_shapes.old to.old) }
     ensures shapes { to_shapes.new ≡ transform_shapes shapes.now anchors.now m.now to_shapes.old to.old }
     ensures anchors { to.new ≡ transform_anchors shapes.now anchors.now m.now to_shapes.old to.old }
 {
-    let map = *m;
-    let a = transform::transform(shapes, anchors, map, to_shapes, to);
-    outline_told(a, answer)
+    let a = transform::transform(shapes, anchors, *m, to_shapes, to);
+    tell(a, answer)
 }
 
 #[unsafe(no_mangle)]
@@ -35,12 +34,12 @@ pub extern "C" fn outline_auto_smooth(
     k: usize,
     answer: &mut [u64; 4],
 ) -> u32
-    ensures code { result ≡ outline_code (smooth_answer shapes.now anchors.old s k) }
-    ensures answer { answer.new ≡ outline_words (smooth_answer shapes.now anchors.old s k) }
+    ensures code { result ≡ code (smooth_answer shapes.now anchors.old s k) }
+    ensures answer { answer.new ≡ told outline_words (smooth_answer shapes.now anchors.old s k) }
     ensures anchors { anchors.new ≡ smooth_left shapes.now anchors.old s k }
 {
     let a = bend::auto_smooth(shapes, anchors, s, k);
-    outline_told(a, answer)
+    tell(a, answer)
 }
 
 #[unsafe(no_mangle)]
@@ -55,11 +54,18 @@ pub extern "C" fn outline_bend_segment(
     keep_smooth: u32,
     answer: &mut [u64; 4],
 ) -> u32
-    ensures code { result ≡ outline_code (bend_answer shapes.now anchors.old s a t (point dx dy) (not (eqb keep_smooth 0))) }
-    ensures answer { answer.new ≡ outline_words (bend_answer shapes.now anchors.old s a t (point dx dy) (not (eqb keep_smooth 0))) }
+    ensures code { result ≡ code (bend_answer shapes.now anchors.old s a t (point dx dy) (not (eqb keep_smooth 0))) }
+    ensures answer { answer.new ≡ told outline_words (bend_answer shapes.now anchors.old s a t (point dx dy) (not (eqb keep_smooth 0))) }
     ensures anchors { anchors.new ≡ bend_left shapes.now anchors.old s a t (point dx dy) (not (eqb keep_smooth 0)) }
 {
-    let keep = keep_smooth != 0;
-    let b = bend::bend_segment(shapes, anchors, s, a, t, P { x: dx, y: dy }, keep);
-    outline_told(b, answer)
+    let told = bend::bend_segment(
+        shapes,
+        anchors,
+        s,
+        a,
+        t,
+        P { x: dx, y: dy },
+        keep_smooth != 0,
+    );
+    tell(told, answer)
 }

@@ -3,9 +3,9 @@ ghost use Rattle.std.specs.Prelude.{◌≡◌};
 ghost use Rattle.edit.specs.Split.{split_answer, split_shapes_left, split_anchors_left};
 ghost use Rattle.edit.specs.Reversed.{reversed_answer, reversed_left};
 ghost use Rattle.removal.specs.Deleted.{delete_answer, delete_shapes_left, delete_anchors_left};
-ghost use Rattle.answers.specs.Answers.{outline_code, outline_words};
+ghost use Rattle.answers.specs.Answers.{code, told, outline_words};
 
-use answers::outline_told;
+use answers::tell;
 
 #[unsafe(no_mangle)]
 pub extern "C" fn outline_split(
@@ -16,13 +16,13 @@ pub extern "C" fn outline_split(
     t: f64,
     answer: &mut [u64; 4],
 ) -> u32
-    ensures code { result ≡ outline_code (split_answer shapes.old anchors.old s a t) }
-    ensures answer { answer.new ≡ outline_words (split_answer shapes.old anchors.old s a t) }
+    ensures code { result ≡ code (split_answer shapes.old anchors.old s a t) }
+    ensures answer { answer.new ≡ told outline_words (split_answer shapes.old anchors.old s a t) }
     ensures shapes { shapes.new ≡ split_shapes_left shapes.old anchors.old s a t }
     ensures anchors { anchors.new ≡ split_anchors_left shapes.old anchors.old s a t }
 {
     let told = edit::split(shapes, anchors, s, a, t);
-    outline_told(told, answer)
+    tell(told, answer)
 }
 
 #[unsafe(no_mangle)]
@@ -33,12 +33,12 @@ pub extern "C" fn outline_reversed(
     s: usize,
     answer: &mut [u64; 4],
 ) -> u32
-    ensures code { result ≡ outline_code (reversed_answer shapes.now anchors.old radii.now s) }
-    ensures answer { answer.new ≡ outline_words (reversed_answer shapes.now anchors.old radii.now s) }
+    ensures code { result ≡ code (reversed_answer shapes.now anchors.old radii.now s) }
+    ensures answer { answer.new ≡ told outline_words (reversed_answer shapes.now anchors.old radii.now s) }
     ensures anchors { anchors.new ≡ reversed_left shapes.now anchors.old radii.now s }
 {
     let told = edit::reversed(shapes, anchors, radii, s);
-    outline_told(told, answer)
+    tell(told, answer)
 }
 
 #[unsafe(no_mangle)]
@@ -48,11 +48,11 @@ pub extern "C" fn outline_delete(
     which: &[u32],
     answer: &mut [u64; 4],
 ) -> u32
-    ensures code { result ≡ outline_code (delete_answer shapes.old anchors.old which.now) }
-    ensures answer { answer.new ≡ outline_words (delete_answer shapes.old anchors.old which.now) }
+    ensures code { result ≡ code (delete_answer shapes.old anchors.old which.now) }
+    ensures answer { answer.new ≡ told outline_words (delete_answer shapes.old anchors.old which.now) }
     ensures shapes { shapes.new ≡ delete_shapes_left shapes.old anchors.old which.now }
     ensures anchors { anchors.new ≡ delete_anchors_left shapes.old anchors.old which.now }
 {
     let told = removal::delete(shapes, anchors, which);
-    outline_told(told, answer)
+    tell(told, answer)
 }

@@ -3,12 +3,10 @@ ghost use Rattle.std.specs.Prelude.{◌≡◌};
 ghost use Rattle.geom.specs.Point.{point};
 ghost use Rattle.hit.specs.Calls.{hit_anchor_answer, hit_segment_answer};
 ghost use Rattle.bounds.specs.Calls.{bounds_answer};
-ghost use Rattle.answers.specs.Answers.{hit_anchor_code, hit_anchor_words, hit_segment_code, hit_segment_words, parameter_left, extent_code, extent_words, corners_left};
+ghost use Rattle.answers.specs.Answers.{code, told, left, hit_anchor_words, hit_segment_words, parameter_put, bounds_words, corners_put};
 
 use answers::tell;
-use bounds::Extent;
 use geom::P;
-use hit::{HitAnchor, HitSegment};
 
 #[unsafe(no_mangle)]
 pub extern "C" fn outline_hit_anchor(
@@ -19,24 +17,11 @@ pub extern "C" fn outline_hit_anchor(
     tol: f64,
     answer: &mut [u64; 4],
 ) -> u32
-    ensures code { result ≡ hit_anchor_code (hit_anchor_answer shapes.now anchors.now (point x y) tol) }
-    ensures answer { answer.new ≡ hit_anchor_words (hit_anchor_answer shapes.now anchors.now (point x y) tol) }
+    ensures code { result ≡ code (hit_anchor_answer shapes.now anchors.now (point x y) tol) }
+    ensures answer { answer.new ≡ told hit_anchor_words (hit_anchor_answer shapes.now anchors.now (point x y) tol) }
 {
     let a = hit::hit_anchor(shapes, anchors, P::new(x, y), tol);
-    match a {
-        HitAnchor::Refused(n, place) => {
-            tell(place, 0, answer);
-            n
-        }
-        HitAnchor::Nothing => {
-            tell(0, 0, answer);
-            0
-        }
-        HitAnchor::At(subpath, anchor) => {
-            *answer = [0, anchor as u64, subpath as u64, 1];
-            0
-        }
-    }
+    tell(a, answer)
 }
 
 #[unsafe(no_mangle)]
@@ -49,26 +34,17 @@ pub extern "C" fn outline_hit_segment(
     t: &mut f64,
     answer: &mut [u64; 4],
 ) -> u32
-    ensures code { result ≡ hit_segment_code (hit_segment_answer shapes.now anchors.now (point x y) tol) }
-    ensures t { t.new ≡ parameter_left (hit_segment_answer shapes.now anchors.now (point x y) tol) t.old }
-    ensures answer { answer.new ≡ hit_segment_words (hit_segment_answer shapes.now anchors.now (point x y) tol) }
+    ensures code { result ≡ code (hit_segment_answer shapes.now anchors.now (point x y) tol) }
+    ensures t { t.new ≡ left parameter_put (hit_segment_answer shapes.now anchors.now (point x y) tol) t.old }
+    ensures answer { answer.new ≡ told hit_segment_words (hit_segment_answer shapes.now anchors.now (point x y) tol) }
 {
     let a = hit::hit_segment(shapes, anchors, P::new(x, y), tol);
-    match a {
-        HitSegment::Refused(n, place) => {
-            tell(place, 0, answer);
-            n
-        }
-        HitSegment::Nothing => {
-            tell(0, 0, answer);
-            0
-        }
-        HitSegment::At(subpath, anchor, at) => {
-            *t = at;
-            *answer = [0, anchor as u64, subpath as u64, 1];
-            0
+    if let Ok(found) = a {
+        if let Some(at) = found {
+            *t = at.t;
         }
     }
+    tell(a, answer)
 }
 
 #[unsafe(no_mangle)]
@@ -78,24 +54,15 @@ pub extern "C" fn outline_bounds(
     corners: &mut [f64; 4],
     answer: &mut [u64; 4],
 ) -> u32
-    ensures code { result ≡ extent_code (bounds_answer shapes.now anchors.now) }
-    ensures corners { corners.new ≡ corners_left (bounds_answer shapes.now anchors.now) corners.old }
-    ensures answer { answer.new ≡ extent_words (bounds_answer shapes.now anchors.now) }
+    ensures code { result ≡ code (bounds_answer shapes.now anchors.now) }
+    ensures corners { corners.new ≡ left corners_put (bounds_answer shapes.now anchors.now) corners.old }
+    ensures answer { answer.new ≡ told bounds_words (bounds_answer shapes.now anchors.now) }
 {
     let a = bounds::bounds(shapes, anchors);
-    match a {
-        Extent::Refused(n, place) => {
-            tell(place, 0, answer);
-            n
-        }
-        Extent::Empty => {
-            tell(0, 0, answer);
-            0
-        }
-        Extent::Box(least, greatest) => {
-            *corners = [least.x, least.y, greatest.x, greatest.y];
-            tell(0, 1, answer);
-            0
+    if let Ok(found) = a {
+        if let Some(b) = found {
+            *corners = [b.min.x, b.min.y, b.max.x, b.max.y];
         }
     }
+    tell(a, answer)
 }

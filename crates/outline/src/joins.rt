@@ -1,9 +1,9 @@
 // The exported join of two paths.
 ghost use Rattle.std.specs.Prelude.{◌≡◌, not, eqb};
 ghost use Rattle.joining.specs.Call.{join_answer, join_shapes_left, join_anchors_left};
-ghost use Rattle.answers.specs.Answers.{outline_code, outline_words};
+ghost use Rattle.answers.specs.Answers.{code, told, outline_words};
 
-use answers::outline_told;
+use answers::tell;
 
 #[unsafe(no_mangle)]
 pub extern "C" fn outline_join(
@@ -16,20 +16,19 @@ pub extern "C" fn outline_join(
     to: &mut [f64],
     answer: &mut [u64; 4],
 ) -> u32
-    ensures code { result ≡ outline_code (join_answer drawn.now drawn_count target.now target_word (not (eqb at_start 0)) to_shapes.old to.old) }
-    ensures answer { answer.new ≡ outline_words (join_answer drawn.now drawn_count target.now target_word (not (eqb at_start 0)) to_shapes.old to.old) }
+    ensures code { result ≡ code (join_answer drawn.now drawn_count target.now target_word (not (eqb at_start 0)) to_shapes.old to.old) }
+    ensures answer { answer.new ≡ told outline_words (join_answer drawn.now drawn_count target.now target_word (not (eqb at_start 0)) to_shapes.old to.old) }
     ensures shapes { to_shapes.new ≡ join_shapes_left drawn.now drawn_count target.now target_word (not (eqb at_start 0)) to_shapes.old to.old }
     ensures anchors { to.new ≡ join_anchors_left drawn.now drawn_count target.now target_word (not (eqb at_start 0)) to_shapes.old to.old }
 {
-    let start = at_start != 0;
     let told = joining::join(
         drawn,
         drawn_count,
         target,
         target_word,
-        start,
+        at_start != 0,
         to_shapes,
         to,
     );
-    outline_told(told, answer)
+    tell(told, answer)
 }

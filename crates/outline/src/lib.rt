@@ -7,10 +7,9 @@ ghost use Rattle.std.specs.Prelude.{◌≡◌};
 ghost use Rattle.root.specs.Root.{root_of};
 ghost use Rattle.geom.specs.Point.{point};
 ghost use Rattle.cubic_calls.specs.Calls.{len_answer, cubic_at_answer, sample_answer, sample_left, split_answer, split_before, split_after, part_answer, part_left};
-ghost use Rattle.answers.specs.Answers.{curve_of, number_code, number_words, number_left, point_code, point_words, point_left, filled_code, filled_words};
+ghost use Rattle.answers.specs.Answers.{curve_of, code, told, left, number_words, number_put, point_words, point_put, count_words};
 
-use answers::{filled_told, tell};
-use cubic_calls::{Number, Point};
+use answers::tell;
 use geom::P;
 
 mod bends;
@@ -46,22 +45,15 @@ pub extern "C" fn outline_root(x: f64) -> f64
 
 #[unsafe(no_mangle)]
 pub extern "C" fn outline_len(x: f64, y: f64, length: &mut f64, answer: &mut [u64; 4]) -> u32
-    ensures code { result ≡ number_code (len_answer (point x y)) }
-    ensures length { length.new ≡ number_left (len_answer (point x y)) length.old }
-    ensures answer { answer.new ≡ number_words (len_answer (point x y)) }
+    ensures code { result ≡ code (len_answer (point x y)) }
+    ensures length { length.new ≡ left number_put (len_answer (point x y)) length.old }
+    ensures answer { answer.new ≡ told number_words (len_answer (point x y)) }
 {
     let a = cubic_calls::len(P::new(x, y));
-    match a {
-        Number::Refused(n, place) => {
-            tell(place, 0, answer);
-            n
-        }
-        Number::Accepted(l) => {
-            *length = l;
-            tell(0, 0, answer);
-            0
-        }
+    if let Ok(l) = a {
+        *length = l;
     }
+    tell(a, answer)
 }
 
 #[unsafe(no_mangle)]
@@ -71,22 +63,15 @@ pub extern "C" fn outline_cubic_at(
     point: &mut [f64; 2],
     answer: &mut [u64; 4],
 ) -> u32
-    ensures code { result ≡ point_code (cubic_at_answer (curve_of c.now) t) }
-    ensures point { point.new ≡ point_left (cubic_at_answer (curve_of c.now) t) point.old }
-    ensures answer { answer.new ≡ point_words (cubic_at_answer (curve_of c.now) t) }
+    ensures code { result ≡ code (cubic_at_answer (curve_of c.now) t) }
+    ensures point { point.new ≡ left point_put (cubic_at_answer (curve_of c.now) t) point.old }
+    ensures answer { answer.new ≡ told point_words (cubic_at_answer (curve_of c.now) t) }
 {
     let a = cubic_calls::cubic_at(curve(c), t);
-    match a {
-        Point::Refused(n, place) => {
-            tell(place, 0, answer);
-            n
-        }
-        Point::Accepted(p) => {
-            *point = [p.x, p.y];
-            tell(0, 1, answer);
-            0
-        }
+    if let Ok(p) = a {
+        *point = [p.x, p.y];
     }
+    tell(a, answer)
 }
 
 #[unsafe(no_mangle)]
@@ -96,12 +81,12 @@ pub extern "C" fn outline_sample(
     out: &mut [f64],
     answer: &mut [u64; 4],
 ) -> u32
-    ensures code { result ≡ filled_code (sample_answer (curve_of c.now) n out.old) }
-    ensures answer { answer.new ≡ filled_words (sample_answer (curve_of c.now) n out.old) }
+    ensures code { result ≡ code (sample_answer (curve_of c.now) n out.old) }
+    ensures answer { answer.new ≡ told count_words (sample_answer (curve_of c.now) n out.old) }
     ensures out { out.new ≡ sample_left (curve_of c.now) n out.old }
 {
     let a = cubic_calls::sample(curve(c), n, out);
-    filled_told(a, answer)
+    tell(a, answer)
 }
 
 #[unsafe(no_mangle)]
@@ -112,13 +97,13 @@ pub extern "C" fn outline_split_cubic(
     after: &mut [f64],
     answer: &mut [u64; 4],
 ) -> u32
-    ensures code { result ≡ filled_code (split_answer (curve_of c.now) t before.old after.old) }
-    ensures answer { answer.new ≡ filled_words (split_answer (curve_of c.now) t before.old after.old) }
+    ensures code { result ≡ code (split_answer (curve_of c.now) t before.old after.old) }
+    ensures answer { answer.new ≡ told count_words (split_answer (curve_of c.now) t before.old after.old) }
     ensures before { before.new ≡ split_before (curve_of c.now) t before.old after.old }
     ensures after { after.new ≡ split_after (curve_of c.now) t before.old after.old }
 {
     let a = cubic_calls::split_cubic(curve(c), t, before, after);
-    filled_told(a, answer)
+    tell(a, answer)
 }
 
 #[unsafe(no_mangle)]
@@ -129,10 +114,10 @@ pub extern "C" fn outline_subsegment(
     out: &mut [f64],
     answer: &mut [u64; 4],
 ) -> u32
-    ensures code { result ≡ filled_code (part_answer (curve_of c.now) from to out.old) }
-    ensures answer { answer.new ≡ filled_words (part_answer (curve_of c.now) from to out.old) }
+    ensures code { result ≡ code (part_answer (curve_of c.now) from to out.old) }
+    ensures answer { answer.new ≡ told count_words (part_answer (curve_of c.now) from to out.old) }
     ensures out { out.new ≡ part_left (curve_of c.now) from to out.old }
 {
     let a = cubic_calls::subsegment(curve(c), from, to, out);
-    filled_told(a, answer)
+    tell(a, answer)
 }

@@ -2,9 +2,9 @@
 ghost use Rattle.std.specs.Prelude.{◌≡◌};
 ghost use Rattle.cut_corners.specs.Calls.{cut_answer, cut_shapes_left, cut_anchors_left};
 ghost use Rattle.svg_calls.specs.Call.{to_svg_d_answer, to_svg_d_left, write_num_answer, write_num_left};
-ghost use Rattle.answers.specs.Answers.{text_code, text_words, outline_code, outline_words};
+ghost use Rattle.answers.specs.Answers.{code, told, outline_words, count_words};
 
-use answers::{outline_told, text_told};
+use answers::tell;
 
 #[unsafe(no_mangle)]
 pub extern "C" fn outline_cut_corners(
@@ -16,13 +16,13 @@ pub extern "C" fn outline_cut_corners(
     to: &mut [f64],
     answer: &mut [u64; 4],
 ) -> u32
-    ensures code { result ≡ outline_code (cut_answer shapes.now anchors.now radii.now kind to_shapes.old to.old) }
-    ensures answer { answer.new ≡ outline_words (cut_answer shapes.now anchors.now radii.now kind to_shapes.old to.old) }
+    ensures code { result ≡ code (cut_answer shapes.now anchors.now radii.now kind to_shapes.old to.old) }
+    ensures answer { answer.new ≡ told outline_words (cut_answer shapes.now anchors.now radii.now kind to_shapes.old to.old) }
     ensures shapes { to_shapes.new ≡ cut_shapes_left shapes.now anchors.now radii.now kind to_shapes.old to.old }
     ensures anchors { to.new ≡ cut_anchors_left shapes.now anchors.now radii.now kind to_shapes.old to.old }
 {
     let a = cut_corners::cut_corners(shapes, anchors, radii, kind, to_shapes, to);
-    outline_told(a, answer)
+    tell(a, answer)
 }
 
 #[unsafe(no_mangle)]
@@ -32,20 +32,20 @@ pub extern "C" fn outline_to_svg_d(
     out: &mut [u8],
     answer: &mut [u64; 4],
 ) -> u32
-    ensures code { result ≡ text_code (to_svg_d_answer shapes.now anchors.now out.old) }
-    ensures answer { answer.new ≡ text_words (to_svg_d_answer shapes.now anchors.now out.old) }
+    ensures code { result ≡ code (to_svg_d_answer shapes.now anchors.now out.old) }
+    ensures answer { answer.new ≡ told count_words (to_svg_d_answer shapes.now anchors.now out.old) }
     ensures out { out.new ≡ to_svg_d_left shapes.now anchors.now out.old }
 {
     let a = svg_calls::to_svg_d(shapes, anchors, out);
-    text_told(a, answer)
+    tell(a, answer)
 }
 
 #[unsafe(no_mangle)]
 pub extern "C" fn outline_write_num(x: f64, out: &mut [u8], answer: &mut [u64; 4]) -> u32
-    ensures code { result ≡ text_code (write_num_answer x out.old) }
-    ensures answer { answer.new ≡ text_words (write_num_answer x out.old) }
+    ensures code { result ≡ code (write_num_answer x out.old) }
+    ensures answer { answer.new ≡ told count_words (write_num_answer x out.old) }
     ensures out { out.new ≡ write_num_left x out.old }
 {
     let a = svg_calls::write_num(x, out);
-    text_told(a, answer)
+    tell(a, answer)
 }

@@ -1,15 +1,14 @@
 // The exported edits of a drawing and its cut cache.
-ghost use Rattle.std.specs.Prelude.{◌≡◌, ℕ};
+ghost use Rattle.std.specs.Prelude.{◌≡◌, ℕ, Ok};
 ghost use Rattle.path.specs.Flat.{anchor_at};
 ghost use Rattle.session.specs.Edits.{move, set_radius, split};
 ghost use Rattle.cached.specs.Opening.{lent};
-ghost use Rattle.replay.specs.declared.calls.Replayed.TheVariants.{Done};
 ghost use Rattle.replay.specs.Encoding.{calls_of};
 ghost use Rattle.replay.specs.Replay.{replay_answer, replay_lists, replay_answers};
 ghost use Rattle.replay.specs.Claim.{Claim};
-ghost use Rattle.answers.specs.Answers.{Tells, replayed_code, replayed_words};
+ghost use Rattle.answers.specs.Answers.{Tells, code, told, count_words};
 
-use answers::{edited_told, replayed_told};
+use answers::tell;
 use path::AnchorRef;
 
 // Six new numbers for anchor i of subpath s.
@@ -42,7 +41,7 @@ pub extern "C" fn outline_move_anchor(
         at,
         path::anchor_at(new, 0),
     );
-    edited_told(a, answer)
+    tell(a, answer)
 }
 
 // A new radius for anchor i of subpath s.
@@ -66,7 +65,7 @@ pub extern "C" fn outline_set_radius(
         anchor: i,
     };
     let a = cached::set_radius(shapes, anchors, radii, kind, numbers, flags, at, radius);
-    edited_told(a, answer)
+    tell(a, answer)
 }
 
 // The segment of subpath s that starts at anchor a cut in two, at t.
@@ -90,7 +89,7 @@ pub extern "C" fn outline_split_segment(
         anchor: a,
     };
     let told = cached_split::split_segment(shapes, anchors, radii, kind, numbers, flags, at, t);
-    edited_told(told, answer)
+    tell(told, answer)
 }
 
 // The cache built, then a list of encoded calls run one after the other.
@@ -107,14 +106,14 @@ pub extern "C" fn outline_replay(
     answers: &mut [u32],
     answer: &mut [u64; 4],
 ) -> u32
-    ensures code { result ≡ replayed_code (replay_answer (lent shapes.old anchors.old radii.old numbers.old flags.old) kind codes.now values.now answers.old) }
-    ensures answer { answer.new ≡ replayed_words (replay_answer (lent shapes.old anchors.old radii.old numbers.old flags.old) kind codes.now values.now answers.old) }
+    ensures code { result ≡ code (replay_answer (lent shapes.old anchors.old radii.old numbers.old flags.old) kind codes.now values.now answers.old) }
+    ensures answer { answer.new ≡ told count_words (replay_answer (lent shapes.old anchors.old radii.old numbers.old flags.old) kind codes.now values.now answers.old) }
     ensures lists { lent shapes.new anchors.new radii.new numbers.new flags.new ≡ replay_lists (lent shapes.old anchors.old radii.old numbers.old flags.old) kind codes.now values.now answers.old }
     ensures answers { answers.new ≡ replay_answers (lent shapes.old anchors.old radii.old numbers.old flags.old) kind codes.now values.now answers.old }
-    ensures demand { (m : ℕ) → replay_answer (lent shapes.old anchors.old radii.old numbers.old flags.old) kind codes.now values.now answers.old ≡ Done m → Claim (lent shapes.old anchors.old radii.old numbers.old flags.old) kind (calls_of codes.now values.now) (lent shapes.new anchors.new radii.new numbers.new flags.new) answers.new }
+    ensures demand { (m : ℕ) → replay_answer (lent shapes.old anchors.old radii.old numbers.old flags.old) kind codes.now values.now answers.old ≡ Ok m → Claim (lent shapes.old anchors.old radii.old numbers.old flags.old) kind (calls_of codes.now values.now) (lent shapes.new anchors.new radii.new numbers.new flags.new) answers.new }
 {
     let told = replay::replay(
         shapes, anchors, radii, kind, numbers, flags, codes, values, answers,
     );
-    replayed_told(told, answer)
+    tell(told, answer)
 }

@@ -5,8 +5,7 @@ ghost use Rattle.cache.proofs.Accepted.{Drawn};
 ghost use Rattle.printing.specs.Printed.{drawing_text};
 
 use crate::path_line::put_path;
-use crate::refused::put_refused;
-use call::Outline;
+use crate::refused::put_refusal;
 
 // Puts the path data of a drawing's cut, or the refusal of a cut that breaks the limit or of a text that is too long.
 pub fn put_drawing(
@@ -21,15 +20,13 @@ pub fn put_drawing(
 {
     let mut numbers = [0.0f64; 6144];
     let mut flags = [0u32; 512];
-    let built = cache::build(shapes, anchors, radii, kind, &mut numbers, &mut flags);
-    if let Outline::Refused(number, place) = built {
-        return put_refused(out, number, place);
+    if let Err(why) = cache::build(shapes, anchors, radii, kind, &mut numbers, &mut flags) {
+        return put_refusal(out, why);
     }
     let mut words = [0u32; 32];
     let mut outline = [0.0f64; 6144];
-    let made = cache::assemble(shapes, &numbers, &flags, &mut words, &mut outline);
-    match made {
-        Outline::Refused(number, place) => put_refused(out, number, place),
-        Outline::Accepted(m, anchors) => put_path(&words[..m], &outline, out),
+    match cache::assemble(shapes, &numbers, &flags, &mut words, &mut outline) {
+        Err(why) => put_refusal(out, why),
+        Ok(made) => put_path(&words[..made.subpaths], &outline, out),
     }
 }

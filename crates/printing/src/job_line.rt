@@ -4,7 +4,7 @@ ghost use Rattle.decimal.specs.Put.{Put};
 ghost use Rattle.printing.specs.Printed.{printed};
 
 use crate::drawing_line::put_drawing;
-use crate::refused::put_refused;
+use crate::refused::{put_refusal, put_refused};
 
 // Puts what `patch` prints for a job, less the newline. The answer is how many bytes.
 pub fn print(bytes: &[u8], out: &mut [u8; 65536]) -> usize
@@ -17,7 +17,7 @@ pub fn print(bytes: &[u8], out: &mut [u8; 65536]) -> usize
     let mut anchors = [0.0f64; 3072];
     let mut radii = [0.0f64; 512];
     match job_calls::read(bytes, &mut shapes, &mut anchors, &mut radii) {
-        Err(refusal) => put_refused(out, u32::from(refusal.reason), refusal.place),
+        Err(why) => put_refusal(out, why),
         Ok(read) => put_drawing(
             &shapes[..read.subpaths],
             &anchors[..read.anchors * 6],

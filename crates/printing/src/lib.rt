@@ -8,4 +8,4 @@ mod refused;
 
 pub use job_line::print;
 pub use path_line::put_path;
-pub use refused::{add_refused, put_refused};
+pub use refused::{add_refused, put_refusal, put_refused};

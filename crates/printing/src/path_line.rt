@@ -7,17 +7,15 @@ ghost use Rattle.call.proofs.Openings.{PathOpens};
 ghost use Rattle.path.specs.Shape.{total};
 ghost use Rattle.printing.specs.Printed.{fitted};
 
-use crate::refused::put_refused;
-use svg_calls::Answer;
+use crate::refused::put_refusal;
 
 // Puts the path data of a path that passes the tests, or the refusal of a text that is too long.
 pub fn put_path(words: &[u32], anchors: &[f64], out: &mut [u8]) -> usize
     requires { PathOpens 1024 words.now anchors.now (total words.now) × (length out.old ≡ 65536) }
     ensures { Put out.old 0 (fitted (text_of words.now (anchor_at anchors.now))) out.new result }
 {
-    let answer = svg_calls::to_svg_d(words, anchors, out);
-    match answer {
-        Answer::Refused(number, place) => put_refused(out, number, place),
-        Answer::Accepted(length) => length,
+    match svg_calls::to_svg_d(words, anchors, out) {
+        Err(why) => put_refusal(out, why),
+        Ok(length) => length,
     }
 }

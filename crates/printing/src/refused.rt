@@ -1,9 +1,11 @@
 // The text of a refusal.
 ghost use Rattle.std.specs.Prelude.{◌+◌, ◌≤◌};
 ghost use Rattle.decimal.specs.Put.{Put, Adds};
+ghost use Rattle.refusal.specs.Reasons.{number_of};
 ghost use Rattle.printing.specs.Refused.{refused_text};
 
 use decimal::Text;
+use refusal::Refusal;
 
 // Puts "refused ", a number, a blank and a place at the end of a text.
 pub fn add_refused(text: &mut Text<'_>, number: u32, place: usize)
@@ -23,4 +25,11 @@ pub fn put_refused(out: &mut [u8], number: u32, place: usize) -> usize
     let mut text = Text::new(out);
     add_refused(&mut text, number, place);
     text.len()
+}
+
+// The same of a refusal, by its number.
+pub fn put_refusal(out: &mut [u8], why: Refusal) -> usize
+    ensures { Put out.old 0 (refused_text (number_of why.reason) why.place) out.new result }
+{
+    put_refused(out, u32::from(why.reason), why.place)
 }

@@ -2,8 +2,9 @@
 use Rattle.std.specs.Prelude.{ℕ, ◌+◌, ◌*◌, ◌≤◌, ◌<◌, ◌≡◌, ◌⊎◌, true, false, cond, List, eqb, length, get_or, Float}
 use Rattle.views.specs.View.{entry}
 use Rattle.path.specs.declared.anchor.Anchor.{Anchor}
-use Rattle.std.specs.Prelude.{Option}
-use Rattle.std.specs.Prelude.{Some, None}
+use Rattle.std.specs.Prelude.{Option, Some, None, Result, MatchResult}
+use Rattle.refusal.specs.declared.Reason.TheVariants.{Made}
+use Rattle.refusal.specs.declared.Refusal.{Refusal}
 use Rattle.path.specs.Limit.{first_bad}
 use Rattle.path.specs.Flat.{anchor_at}
 use Rattle.corner.specs.declared.kind.CornerKind.{CornerKind}
@@ -82,7 +83,7 @@ pub record HoldsFlags (v : View) (sub : Sub) (w : Window) (from : ℕ) (flags : 
 unfoldable pub places_found : View → Sub → Window → Option ℕ
 places_found v sub w = first_bad (good_near v sub w) (sub.first + sub.n)
 
--- decided: 9 and the place, or 0, how many were recut, and what they are
+-- accepted: how many are recut, and what they are
 pub record Accepts (v : View) (sub : Sub) (w : Window) (p : Plan) : Type 0 where
   pub none : places_found v sub w ≡ None
   pub count : p.count ≡ near_count w.reach sub.n sub.closed w.at
@@ -91,8 +92,9 @@ pub record Accepts (v : View) (sub : Sub) (w : Window) (p : Plan) : Type 0 where
   pub numbers : HoldsNumbers v sub w p.from p.numbers
   pub flags : HoldsFlags v sub w p.from p.flags
 
-abbrev pub Decides : View → Sub → Window → Plan → Type 0
-Decides v sub w p = ((p.number ≡ 9) × (places_found v sub w ≡ Some p.place)) ⊎ ((p.number ≡ 0) × Accepts v sub w p)
+-- decided: a plan, or 9 at the first bad place
+abbrev pub Decides : View → Sub → Window → Result Plan Refusal → Type 0
+Decides v sub w r = MatchResult r (Accepts v sub w) (λ why. (why.reason ≡ Made) × (places_found v sub w ≡ Some why.place))
 
 -- ---- an edit of one anchor: v is a subpath of the path in the lists, with this anchor and this radius at index `at`
 pub record Put (v : View) (kind : CornerKind) (sub : Sub) (at : ℕ) (a : Anchor) (radius : Float) (anchors radii : List Float) : Type 0 where

@@ -5,5 +5,5 @@ mod plans;
 mod stretches;
 mod testing;
 
-pub use plans::{Plan, plan_put, plan_recut, refuse, write_places};
+pub use plans::{Plan, plan_put, plan_recut, write_places};
 pub use stretches::{Gathered, Stretch, gather, rolled, stretch_of};

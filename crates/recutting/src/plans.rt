@@ -1,5 +1,5 @@
 // The places within reach recut in a stretch, tested, and then written: a plan is made from lists that are only read.
-ghost use Rattle.std.specs.Prelude.{◌≡◌, ℕ, ◌+◌, ◌-◌, ◌*◌, ◌≤◌, ◌<◌, length, true, false};
+ghost use Rattle.std.specs.Prelude.{◌≡◌, IfOk, ℕ, ◌+◌, ◌-◌, ◌*◌, ◌≤◌, ◌<◌, length, true, false};
 ghost use Rattle.path.specs.Limit.{first_bad};
 ghost use Rattle.cache.specs.Tests.{twelve_in};
 ghost use Rattle.cut.specs.View.{View};
@@ -15,33 +15,16 @@ use crate::testing::place_in;
 use corner::CornerKind;
 use cut::{Sub, Window};
 use path::Anchor;
+use refusal::{Reason, Refusal};
 
-// The refusal's number and place, or number 0, how many places were recut, how many anchors there then are, and the places of the stretch, which starts
-// at index `from` of its subpath.
+// How many places are recut, how many anchors there then are, and the places of the stretch, which starts at index `from` of its subpath.
 #[derive(Drop)]
 pub struct Plan {
-    pub number: u32,
-    pub place: usize,
     pub count: usize,
     pub total: usize,
     pub from: usize,
     pub numbers: [f64; 180],
     pub flags: [u32; 15],
-}
-
-// A refusal.
-pub fn refuse(number: u32, place: usize) -> Plan
-    ensures { (result.number ≡ number) × (result.place ≡ place) }
-{
-    Plan {
-        number: number,
-        place: place,
-        count: 0,
-        total: 0,
-        from: 0,
-        numbers: [0.0f64; 180],
-        flags: [0u32; 15],
-    }
 }
 
 // The lowest place within reach that breaks the limit; a stretch that starts at index `from` holds it.
@@ -73,10 +56,10 @@ pub fn plan_recut(
     w: Window,
     s: Stretch,
     total: usize,
-) -> Plan
+) -> Result<Plan, Refusal>
     requires about { About sub w s × (sub.first + sub.n ≤ 1024) × (w.at < sub.n) × (w.reach ≤ 4) }
     requires anchors_len { (length anchors.now ≡ 90) × (length radii.now ≡ 15) }
-    ensures { (result.number ≡ 0 → result.total ≡ total) × ((v : View) → Stretched v kind sub s anchors.now radii.now → Decides v sub w result) }
+    ensures { IfOk result (λ p. p.total ≡ total) × ((v : View) → Stretched v kind sub s anchors.now radii.now → Decides v sub w result) }
 {
     let mut rows = [None; 15];
     let mut cuts = [None; 15];
@@ -101,18 +84,15 @@ pub fn plan_recut(
         &mut numbers,
         &mut flags,
     );
-    let bad = first_bad(sub, w, from, &numbers);
-    if let Some(k) = bad {
-        return refuse(refusal::RESULT, k);
-    }
-    Plan {
-        number: 0,
-        place: 0,
-        count: count,
-        total: total,
-        from: from,
-        numbers: numbers,
-        flags: flags,
+    match first_bad(sub, w, from, &numbers) {
+        Some(k) => Err(Reason::Made.at(k)),
+        None => Ok(Plan {
+            count,
+            total,
+            from,
+            numbers,
+            flags,
+        }),
     }
 }
 
@@ -126,9 +106,9 @@ pub fn plan_put(
     new: Anchor,
     radius: f64,
     total: usize,
-) -> Plan
+) -> Result<Plan, Refusal>
     requires { (sub.first + sub.n ≤ 1024) × (w.at < sub.n) × (w.reach ≤ 4) × ((sub.first + sub.n) * 6 ≤ length anchors.now) × (sub.first + sub.n ≤ length radii.now) }
-    ensures { (result.number ≡ 0 → result.total ≡ total) × ((v : View) → Put v kind sub w.at new radius anchors.now radii.now → Decides v sub w result) }
+    ensures { IfOk result (λ p. p.total ≡ total) × ((v : View) → Put v kind sub w.at new radius anchors.now radii.now → Decides v sub w result) }
 {
     let s = stretch_of(sub, w);
     let g = gather(anchors, radii, sub, s, sub.n);

@@ -62,20 +62,7 @@ impl Reason {
     {
         Refusal {
             reason: self,
-            place: place,
+            place,
         }
     }
 }
-
-// The numbers for the calls that still answer by number (docs/DESIGN-PASS.md, point 1).
-pub const LISTS: u32 = 7;
-
-pub const ARGUMENTS: u32 = 5;
-
-pub const REFERENCE: u32 = 6;
-
-pub const CAPACITY: u32 = 10;
-
-pub const RESULT: u32 = 9;
-
-pub const OUTPUT: u32 = 8;

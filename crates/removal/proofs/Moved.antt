@@ -1,5 +1,5 @@
 -- Laws of the subpaths that stay, moved down over those that go: one subpath more, and what both lists hold in the end. Assumes nothing.
-use mathlib.Core.Path.{◌≡◌, refl, sym, ap, ap₂, ◌∙◌}
+use mathlib.Core.Path.{◌≡◌, refl, sym, ap, ◌∙◌}
 use mathlib.Core.Logic.{⊎_elim}
 use mathlib.Core.Bool.{Bool, true, false, not, cond}
 use mathlib.Core.List.{List, [], ◌∷◌, ◌++◌, append-nil}
@@ -19,7 +19,7 @@ use Rattle.path.specs.Shape.{count_of, total, word_at, start}
 use Rattle.path.proofs.Shapes.{total-next, total_in, total-end}
 use Rattle.path.proofs.Places.{length-put, put_keep}
 use Rattle.path.proofs.Puts.{put_next, put-listed}
-use Rattle.call.specs.declared.answers.Outline.TheVariants.{Accepted}
+use Rattle.call.specs.declared.answers.Outline.{Outline}
 use Rattle.removal.specs.Deleted.{retained, subpath_left, subpath_stays, word_left, words_up_to, anchors_up_to, kept_words, kept_anchors}
 use Rattle.removal.specs.Marks.{kept_at, kept_in}
 use Rattle.removal.proofs.Retained.{retained_kept, retained_gone, retained-count, retained_most, retained-same}
@@ -197,13 +197,13 @@ module _ (shapes : List ℕ) (anchors : List Float) (keep : ℕ → ℕ → Bool
 
   -- after all of them
   pub held_all : (ws : List ℕ) (n : ℕ) (xs : List Float) (at : ℕ) → total shapes * 6 ≤ length anchors → Held (length shapes) ws n xs at
-      → (Accepted n at ≡ Accepted (length (kept_words shapes anchors keep)) (length (kept_anchors shapes anchors keep)))
+      → ◌≡◌ {A = Outline} (record { subpaths = n; anchors = at }) (record { subpaths = length (kept_words shapes anchors keep); anchors = length (kept_anchors shapes anchors keep) })
       × (ws ≡ overwrite (length (kept_words shapes anchors keep)) (word_at (kept_words shapes anchors keep)) shapes)
       × (xs ≡ listed (kept_anchors shapes anchors keep) anchors)
   unfolding kept_words kept_anchors
   held_all ws n xs at long h =
       let m = length shapes in
-      (ap₂ Accepted h.words_count h.anchors_count, held-words m ws n xs at h (le_refl m) long, held_anchors m ws n xs at h (le_refl m) long)
+      (rw (h.words_count, h.anchors_count), held-words m ws n xs at h (le_refl m) long, held_anchors m ws n xs at h (le_refl m) long)
 
 -- ---- a subpath by its marks: what is counted, and what is moved, is what is left of it
 module _ (shapes : List ℕ) (anchors : List Float) (gone : List Bool) (s first m : ℕ) (e : first ≡ start shapes s) (f : m ≡ count_of (word_at shapes s)) where

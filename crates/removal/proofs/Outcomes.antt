@@ -6,14 +6,16 @@ use Prim.Native.Nat.{ℕ, ◌%◌}
 use lib.ListN.{length}
 use lib.Ieee.{Float}
 use borrow.Author.Tests.{eq-eqb, ne_eqb}
+use Rattle.std.proofs.Common.{Ok, Err}
 use Rattle.views.specs.View.{overwrite}
 use Rattle.views.specs.Search.{all}
+use Rattle.refusal.specs.Reasons.{refusal_at}
+use Rattle.refusal.specs.declared.Refusal.{Refusal}
+use Rattle.refusal.specs.declared.Reason.TheVariants.{Reference, Lists}
 use Rattle.refusal.specs.Order.{accepted, refused}
 use Rattle.refusal.proofs.Verdicts.{holds_true, holds_false, in_order, by_lists, by_reference, by_none}
 use Rattle.path.specs.Flat.{listed}
 use Rattle.path.specs.Shape.{total, word_at}
-use Rattle.call.specs.declared.answers.Outline.TheVariants.{Refused, Accepted}
-use Rattle.call.specs.declared.opening.Opened.TheVariants as opened
 use Rattle.call.specs.Tests.{opened_path}
 use Rattle.call.proofs.Openings.{PathOpens, path_refused}
 use Rattle.call.proofs.Handings.{outline-refused, outline_accepted, list_kept, list_written, anchors_kept, anchors_written}
@@ -26,22 +28,22 @@ unfolding whole_pairs
 whole which e = eq-eqb (length which % 2) 0 e
 
 module _ (shapes : List ℕ) (anchors : List Float) (which : List ℕ) where
-  pub delete-refused : (c k : ℕ) → delete_verdict shapes anchors which ≡ refused c k
-      → (Refused c k ≡ delete_answer shapes anchors which) × (shapes ≡ delete_shapes_left shapes anchors which) × (anchors ≡ delete_anchors_left shapes anchors which)
+  pub delete-refused : (why : Refusal) → delete_verdict shapes anchors which ≡ refused why
+      → (Err why ≡ delete_answer shapes anchors which) × (shapes ≡ delete_shapes_left shapes anchors which) × (anchors ≡ delete_anchors_left shapes anchors which)
   unfolding delete_answer delete_shapes_left delete_anchors_left
-  delete-refused c k e = (outline-refused _ _ e, list_kept _ _ _ e, anchors_kept _ _ e)
+  delete-refused why e = (outline-refused _ _ e, list_kept _ _ _ e, anchors_kept _ _ e)
 
-  pub not-whole : (length which % 2 ≡ 0 → ⊥) → delete_verdict shapes anchors which ≡ refused 7 0
+  pub not-whole : (length which % 2 ≡ 0 → ⊥) → delete_verdict shapes anchors which ≡ refused (refusal_at Lists 0)
   unfolding delete_verdict whole_pairs
   not-whole ne = by_lists _ _ _ _ _ _ 0 (rw (ne_eqb (length which % 2) 0 ne) (holds_false 0 refl))
 
   module _ (w : whole_pairs which ≡ true) where
-    pub not_opened : (c k : ℕ) → opened_path 512 shapes anchors ≡ opened.Refused c k → delete_verdict shapes anchors which ≡ refused c k
+    pub not_opened : (why : Refusal) → opened_path 512 shapes anchors ≡ Err why → delete_verdict shapes anchors which ≡ refused why
     unfolding delete_verdict
-    not_opened c k e = in_order _ _ _ _ _ _ ∙ rw w (path_refused 512 shapes anchors c k e true _)
+    not_opened why e = in_order _ _ _ _ _ _ ∙ rw w (path_refused 512 shapes anchors why e true _)
 
     module _ (n : ℕ) (o : PathOpens 512 shapes anchors n) where
-      pub unknown : all (points_in shapes which) (pairs which) ≡ false → delete_verdict shapes anchors which ≡ refused 6 0
+      pub unknown : all (points_in shapes which) (pairs which) ≡ false → delete_verdict shapes anchors which ≡ refused (refusal_at Reference 0)
       unfolding delete_verdict
       unknown e = by_reference _ _ _ _ _ _ (rw w o.lists_pass) (o.places_good true ∙ holds_true (total shapes) refl) 0 (holds_false 0 e)
 
@@ -52,7 +54,7 @@ module _ (shapes : List ℕ) (anchors : List Float) (which : List ℕ) where
       pub delete_accepted : all (points_in shapes which) (pairs which) ≡ true → (gone : List Bool) → Marked shapes which (pairs which) gone →
           let ws = kept_words shapes anchors (kept_in shapes gone) in
           let ps = kept_anchors shapes anchors (kept_in shapes gone) in
-          (Accepted (length ws) (length ps) ≡ delete_answer shapes anchors which)
+          (Ok (record { subpaths = length ws; anchors = length ps }) ≡ delete_answer shapes anchors which)
           × (overwrite (length ws) (word_at ws) shapes ≡ delete_shapes_left shapes anchors which)
           × (listed ps anchors ≡ delete_anchors_left shapes anchors which)
       unfolding delete_answer delete_shapes_left delete_anchors_left deleted_words deleted_anchors keeps

@@ -1,6 +1,7 @@
 -- `delete`: the anchors that references name go, then every subpath that has too few left, anywhere in the path. Assumes nothing.
-use Rattle.std.specs.Prelude.{ℕ, zero, suc, ◌+◌, ◌*◌, ◌/◌, ◌%◌, Bool, true, not, ◌&&◌, cond, List, [], ◌∷◌, ◌++◌, leb, eqb, length, get_or, Float}
+use Rattle.std.specs.Prelude.{ℕ, zero, suc, ◌+◌, ◌*◌, ◌/◌, ◌%◌, Bool, true, not, ◌&&◌, cond, List, [], ◌∷◌, ◌++◌, leb, eqb, length, get_or, Float, Result}
 use Rattle.views.specs.Search.{all}
+use Rattle.refusal.specs.declared.Refusal.{Refusal}
 use Rattle.refusal.specs.Order.{passes, holds, Verdict, verdict, tests}
 use Rattle.path.specs.declared.anchor.Anchor.{Anchor}
 use Rattle.path.specs.Flat.{anchor_at}
@@ -99,7 +100,7 @@ delete_verdict shapes anchors which =
     passes
     passes)
 
-unfoldable pub delete_answer : List ℕ → List Float → List ℕ → Outline
+unfoldable pub delete_answer : List ℕ → List Float → List ℕ → Result Outline Refusal
 delete_answer shapes anchors which =
     outline_answer (delete_verdict shapes anchors which) (length (deleted_words shapes anchors which)) (length (deleted_anchors shapes anchors which))
 

@@ -4,7 +4,6 @@ ghost use Rattle.views.specs.View.{overwrite};
 ghost use Rattle.views.specs.Search.{count};
 ghost use Rattle.path.specs.Flat.{anchor_at, put_all, listed};
 ghost use Rattle.path.specs.Shape.{total, word_at};
-ghost use Rattle.call.specs.declared.answers.Outline.TheVariants.{Accepted};
 ghost use Rattle.removal.specs.Deleted.{retained, suffices, kept_words, kept_anchors};
 ghost use Rattle.removal.specs.Marks.{kept_at, kept_in};
 
@@ -43,7 +42,7 @@ fn suffices(closed: bool, n: usize) -> bool
 // Leaves the subpaths that stay in front of both lists.
 pub fn move_down(shapes: &mut [u32], anchors: &mut [f64], gone: &[bool]) -> Outline
     requires { (length shapes.old ≤ 32) × (total shapes.old ≤ 512) × (total shapes.old ≤ length gone.now) × (total shapes.old * 6 ≤ length anchors.old) }
-    ensures answer { result ≡ Accepted (length (kept_words shapes.old anchors.old (kept_in shapes.old gone.now))) (length (kept_anchors shapes.old anchors.old (kept_in shapes.old gone.now))) }
+    ensures answer { result ≡ record { subpaths = length (kept_words shapes.old anchors.old (kept_in shapes.old gone.now)); anchors = length (kept_anchors shapes.old anchors.old (kept_in shapes.old gone.now)) } }
     ensures shapes { shapes.new ≡ overwrite (length (kept_words shapes.old anchors.old (kept_in shapes.old gone.now))) (word_at (kept_words shapes.old anchors.old (kept_in shapes.old gone.now))) shapes.old }
     ensures anchors { anchors.new ≡ listed (kept_anchors shapes.old anchors.old (kept_in shapes.old gone.now)) anchors.old }
 {
@@ -63,5 +62,8 @@ pub fn move_down(shapes: &mut [u32], anchors: &mut [f64], gone: &[bool]) -> Outl
         }
         first += n;
     }
-    Outline::Accepted(words, at)
+    Outline {
+        subpaths: words,
+        anchors: at,
+    }
 }

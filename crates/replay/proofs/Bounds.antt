@@ -1,8 +1,7 @@
--- An answer and its five words; they fit: no place or count is above 512, and an accepted call's subpath is there. Assumes nothing.
-use mathlib.Core.Path.{◌≡◌, refl, sym, ◌∙◌}
+-- An answer's five words fit: no place or count is above 512, and an accepted call's subpath is there. Assumes nothing.
+use mathlib.Core.Path.{◌≡◌, refl, sym, ap, ◌∙◌}
 use mathlib.Core.Logic.{◌⊎◌, inl, inr, ⊎_elim}
 use mathlib.Core.Bool.{Bool, true, false, ◌&&◌, cond}
-use mathlib.Core.List.{List, [], ◌∷◌}
 use Prim.Native.Nat.{ℕ, zero, suc, ◌≤◌, ◌<◌, zero-le, suc-le-suc}
 use native.Mathlib.Omega.{arith}
 use lib.Dec.{leb, ltb}
@@ -11,14 +10,15 @@ use borrow.Author.Tests.{leb-true, ltb-true}
 use Rattle.path.proofs.Shapes.{has_says}
 use Rattle.views.specs.Search.{first_false, count}
 use Rattle.views.proofs.Bools.{and_left, and_right}
-use Rattle.refusal.specs.Order.{Test, passes, fails, holds, judge, Verdict, accepted, refused}
+use Rattle.refusal.specs.declared.Refusal.{Refusal}
+use Rattle.refusal.specs.declared.Reason.TheVariants.{Arguments, Reference, Lists, Output, Made, Capacity}
+use Rattle.refusal.specs.declared.Reason.{Reason}
+use Rattle.refusal.specs.Order.{Test, passes, fails, holds, judge, Verdict, accepted, refused, answering}
 use Rattle.refusal.proofs.Verdicts.{in_order, holds_says, accepted_says, refusing}
-use Rattle.path.specs.Shape.{total, word_at, start}
+use Rattle.path.specs.Shape.{total}
 use Rattle.path.specs.Limit.{place_in}
 use Rattle.call.specs.Tests.{places, drawing_limit}
 use Rattle.corner.specs.Kinds.{kind_of, is_known}
-use Rattle.session.specs.declared.answers.Edited.{Edited}
-use Rattle.session.specs.declared.answers.Edited.TheVariants.{Refused, Accepted}
 use Rattle.session.specs.Drawing.{Lent, drawn}
 use Rattle.session.specs.Edits.{Call, move, set_radius, split, Edit, edit_of}
 use Rattle.session.specs.Calls.{lists_fit, written_good, recut_good, edit_limit, edit_verdict, edit_answer, edited_lists, lists_after, call_verdict, call_answer, call_lists}
@@ -26,25 +26,7 @@ use Rattle.session.specs.Model.{lengths_of, long_for, small_path}
 use Rattle.session.proofs.Lents.{fits-same}
 use Rattle.session.proofs.Effects.{segment-sub}
 use Rattle.session.proofs.Step.{words_kept}
-use Rattle.replay.specs.Encoding.{told, stands, answer_words, Small, subpath_of}
-
--- ---- by its two cases
-module _ (e : Edited) (shapes : List ℕ) (s : ℕ) where
-  module _ (number place : ℕ) (is : e ≡ Refused number place) where
-    pub refused-fits : Small e shapes s → place ≤ 512
-    refused-fits h = rw is at h
-
-    pub refused-words : number ∷ place ∷ 0 ∷ 0 ∷ 0 ∷ [] ≡ answer_words e shapes s
-    unfolding answer_words told stands
-    refused-words = rw is
-
-  module _ (recut n : ℕ) (is : e ≡ Accepted recut n) where
-    pub accepted_fits : Small e shapes s → (recut ≤ 512) × (n ≤ 512) × (s < length shapes) × (length shapes ≤ 32) × (total shapes ≤ 512)
-    accepted_fits h = rw is at h
-
-    pub accepted_words : 0 ∷ recut ∷ n ∷ start shapes s ∷ word_at shapes s ∷ [] ≡ answer_words e shapes s
-    unfolding answer_words told stands
-    accepted_words = rw is
+use Rattle.replay.specs.Encoding.{Small, subpath_of}
 
 -- ---- at which place a test fails
 same_place : (p k : ℕ) → fails p ≡ fails k → p ≡ k
@@ -67,13 +49,13 @@ places_place good n after k = go (ltb (first_false good n) n) refl
     go false t e = inr e
 
 -- a verdict is the first test's, or that of those after it
-same_refusal : (x p n k : ℕ) → refused x p ≡ refused n k → fails p ≡ fails k
-same_refusal x p n k e = cc
+same_refusal : (x y : Refusal) → refused x ≡ refused y → x ≡ y
+same_refusal x y e = cc
 
-judged : (t : Test) (x : ℕ) (later : Verdict) (n k : ℕ) → judge t x later ≡ refused n k → (t ≡ fails k) ⊎ ((t ≡ passes) × (later ≡ refused n k))
+judged : (t : Test) (r : Reason) (later : Verdict) (why : Refusal) → judge t r later ≡ refused why → (t ≡ fails why.place) ⊎ ((t ≡ passes) × (later ≡ refused why))
 unfolding judge
-judged passes x later n k e = inr (refl, e)
-judged (fails p) x later n k e = inl (same_refusal x p n k e)
+judged passes r later why e = inr (refl, e)
+judged (fails p) r later why e = inl (ap (λ (x : Refusal). fails x.place) (same_refusal _ why e))
 
 zero-small : (b : Bool) (k : ℕ) → holds b 0 ≡ fails k → k ≤ 512
 zero-small b k e = let z = holds_place b 0 k e in omega arith
@@ -116,22 +98,23 @@ module _ (l : Lent) (kind : ℕ) (e : Edit) where
       ⊎_elim (λ x. omega arith) (λ y. ⊎_elim (λ x. omega arith) (λ x. absurd (apart k x)) (places_place (recut_good e) after passes k y))
       (places_place (written_good e) after (places (recut_good e) after passes) k h)
 
-  pub refused-small : (x k : ℕ) → edit_verdict l kind e ≡ refused x k → k ≤ 512
+  pub refused-small : (why : Refusal) → edit_verdict l kind e ≡ refused why → why.place ≤ 512
   unfolding edit_verdict
-  refused-small x k h =
+  refused-small why h =
+      let k = why.place in
       ⊎_elim (zero-small _ k)
       (λ p7. ⊎_elim (loose_small (holds_says (lists_fit l) 0 p7.0) k)
       (λ p5. ⊎_elim (zero-small _ k)
       (λ p6. ⊎_elim (zero-small _ k)
       (λ p10. ⊎_elim (result_small (leb-true after 512 (holds_says (leb after 512) 0 p10.0)) k)
       (λ p9. ⊎_elim (zero-small _ k)
-      (λ p8. absurd (refusing x k (sym p8.1)))
-      (judged _ 8 _ x k p9.1))
-      (judged _ 9 _ x k p10.1))
-      (judged _ 10 _ x k p6.1))
-      (judged _ 6 _ x k p5.1))
-      (judged _ 5 _ x k p7.1))
-      (judged _ 7 _ x k (sym (in_order _ _ _ _ _ _) ∙ h))
+      (λ p8. absurd (refusing why (sym p8.1)))
+      (judged _ Output _ why p9.1))
+      (judged _ Made _ why p10.1))
+      (judged _ Capacity _ why p6.1))
+      (judged _ Reference _ why p5.1))
+      (judged _ Arguments _ why p7.1))
+      (judged _ Lists _ why (sym (in_order _ _ _ _ _ _) ∙ h))
 
 -- ---- an accepted call's subpath
 known_sub : (l : Lent) (kind : ℕ) (c : Call) → (edit_of (drawn l kind) c).known ≡ true → subpath_of c < length l.shapes
@@ -164,11 +147,11 @@ module _ (l : Lent) (kind : ℕ) (c : Call) (yes : edit_verdict l kind (edit_of 
 
 -- ---- every answer
 pub small-answer : (l : Lent) (kind : ℕ) (c : Call) → Small (call_answer l kind c) (call_lists l kind c).shapes (subpath_of c)
-unfolding call_answer call_lists call_verdict edit_answer lists_after edited_lists
+unfolding call_answer call_lists call_verdict edit_answer answering lists_after edited_lists
 small-answer l kind c = go (edit_verdict l kind (edit_of (drawn l kind) c)) refl
   where
     go : (v : Verdict) → edit_verdict l kind (edit_of (drawn l kind) c) ≡ v
         → Small (edit_answer v (count (edit_of (drawn l kind) c).recuts (total (edit_of (drawn l kind) c).made.shapes)) (total (edit_of (drawn l kind) c).made.shapes))
         (lists_after v (edited_lists l (edit_of (drawn l kind) c)) l).shapes (subpath_of c)
-    go (refused x k) h = refused-small l kind (edit_of (drawn l kind) c) x k h
+    go (refused why) h = refused-small l kind (edit_of (drawn l kind) c) why h
     go accepted h = accepted_small l kind c h

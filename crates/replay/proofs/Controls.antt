@@ -4,11 +4,14 @@ use mathlib.Core.List.{List, [], ◌∷◌, ◌++◌}
 use Prim.Native.Nat.{ℕ}
 use lib.ListN.{replicate}
 use lib.Ieee.{Float, nan, lt, le, eq, add, sub, mul, of_int, of_bits, binary64}
+use Rattle.std.proofs.Common.{Err}
 use Rattle.views.specs.View.{overwrite, tabulate}
 use Rattle.views.specs.Search.{all, first_false, count}
 use Rattle.real.specs.Operators.{float}
 use Rattle.real.specs.Limit.{in_limit}
-use Rattle.refusal.specs.Order.{holds, judge, first_failing, verdict, tests}
+use Rattle.refusal.specs.Reasons.{refusal_at}
+use Rattle.refusal.specs.declared.Reason.TheVariants.{Arguments, Lists}
+use Rattle.refusal.specs.Order.{holds, judge, first_failing, verdict, tests, answering}
 use Rattle.geom.specs.Point.{point, plus, minus, times}
 use Rattle.path.specs.Flat.{numbers, anchor_numbers}
 use Rattle.path.specs.Limit.{anchor_good, anchor_in, place_in}
@@ -29,9 +32,8 @@ use Rattle.session.specs.Calls.{lists_fit, written_good, recut_good, edit_limit,
 use Rattle.cache.specs.Calls.{cut_places, build_verdict, build_numbers, build_flags}
 use Rattle.call.specs.Answers.{list_left}
 use Rattle.cached.specs.Opening.{lent}
-use Rattle.replay.specs.declared.calls.Replayed.TheVariants.{Refused}
 use Rattle.replay.specs.Encoding.{call_of, call_at, calls_of, calls_fit, calls_known, told, stands, answer_words, subpath_of}
-use Rattle.replay.specs.Replay.{stage, call_words, answer_word, answered, replay_verdict, replay_answer, replay_answers}
+use Rattle.replay.specs.Replay.{stage, call_words, answer_word, replay_verdict, replay_answer, replay_answers}
 
 abbrev half : Float
 half = of_bits binary64 0x3FE0_0000_0000_0000
@@ -64,11 +66,11 @@ refusals :
     ∷ replay_answer two 0 (3 ∷ 0 ∷ 1 ∷ []) (replicate 6 nan) (replicate 5 0)
     ∷ replay_answer two 3 (1 ∷ 0 ∷ 1 ∷ []) (replicate 6 nan) (replicate 5 0)
     ∷ []
-    ≡ Refused 7 0 ∷ Refused 7 0 ∷ Refused 7 0 ∷ Refused 7 0 ∷ Refused 5 2 ∷ Refused 5 2 ∷ []
-unfolding replay_answer answered replay_verdict calls_fit calls_known lists_fit cache_fits drawing_fits drawing_limit path_fits places place_in anchor_in verdict first_failing tests holds judge kind_of is_known all first_false in_limit of_bits of_int
+    ≡ Err (refusal_at Lists 0) ∷ Err (refusal_at Lists 0) ∷ Err (refusal_at Lists 0) ∷ Err (refusal_at Lists 0) ∷ Err (refusal_at Arguments 2) ∷ Err (refusal_at Arguments 2) ∷ []
+unfolding replay_answer replay_verdict calls_fit calls_known lists_fit cache_fits drawing_fits drawing_limit path_fits places place_in anchor_in verdict first_failing tests answering holds judge kind_of is_known all first_false in_limit of_bits of_int
 refusals = refl
 
 -- the answers: anchor 1 moved (two places recut, two anchors, from place 0, its word 2), then no anchor 5; what is past them stays
 answers-told : replay_answers two 0 (0 ∷ 0 ∷ 1 ∷ 1 ∷ 0 ∷ 5 ∷ []) values (replicate 11 9) ≡ (0 ∷ 2 ∷ 2 ∷ 0 ∷ 2 ∷ []) ++ (6 ∷ 0 ∷ 0 ∷ 0 ∷ 0 ∷ []) ++ 9 ∷ []
-unfolding replay_answers replay_verdict calls_fit calls_known list_left overwrite answer_word stage built_lists build_numbers build_flags build_verdict cut_places view_at cached_numbers cached_flags call_at call_of call_words answer_words told stands subpath_of call_lists lists_after edited_lists call_answer call_verdict edit_verdict edit_answer edit_of moved resized anchor_good has_anchor lists_fit cache_fits room_in written_good recut_good edit_limit drawn drawing_fits drawing_limit path_fits places place_in anchor_in verdict first_failing tests holds judge kind_of is_known corner_kind all first_false count in_limit numbers next prev reached near gap view_in view_of sub_at sub_of places_of place_of_path place_at place_of place_numbers cached_in is_cut cut_at fitted_at corner_at arrives leaves in_at out_at trimmed_at plus minus times of_bits of_int add mul sub lt le eq anchor_numbers
+unfolding replay_answers replay_verdict calls_fit calls_known list_left overwrite answer_word stage built_lists build_numbers build_flags build_verdict cut_places view_at cached_numbers cached_flags call_at call_of call_words answer_words told stands subpath_of call_lists lists_after edited_lists call_answer call_verdict edit_verdict edit_answer edit_of moved resized anchor_good has_anchor lists_fit cache_fits room_in written_good recut_good edit_limit drawn drawing_fits drawing_limit path_fits places place_in anchor_in verdict first_failing tests answering holds judge kind_of is_known corner_kind all first_false count in_limit numbers next prev reached near gap view_in view_of sub_at sub_of places_of place_of_path place_at place_of place_numbers cached_in is_cut cut_at fitted_at corner_at arrives leaves in_at out_at trimmed_at plus minus times of_bits of_int add mul sub lt le eq anchor_numbers
 answers-told = refl

@@ -7,6 +7,7 @@ use lib.Dec.{eqb}
 use lib.ListN.{get_or}
 use lib.Ieee.{Float}
 use borrow.Author.Tests.{ne_eqb}
+use Rattle.std.proofs.Common.{Result}
 use Rattle.path.specs.declared.anchor.Anchor.{Anchor}
 use Rattle.path.specs.Flat.{anchor_at}
 use Rattle.session.specs.declared.answers.Edited.{Edited}
@@ -17,6 +18,7 @@ use Rattle.cached.specs.Doing.{Does}
 use Rattle.replay.specs.Encoding.{call_of, call_at, answer_words, Small, subpath_of}
 use Rattle.replay.specs.Replay.{call_words}
 use Rattle.replay.proofs.Bounds.{small-answer}
+use Rattle.refusal.specs.declared.Refusal.{Refusal}
 
 module _ (which s i : ℕ) (given : Anchor) where
   -- ---- which of the three
@@ -43,7 +45,7 @@ module _ (which s i : ℕ) (given : Anchor) where
       go false false = refl
 
   -- ---- the call run: one law a kind
-  module _ (l : Lent) (kind : ℕ) (edited : Edited) where
+  module _ (l : Lent) (kind : ℕ) (edited : Result Edited Refusal) where
     pub ran_move : which ≡ 0 → (after : Lent) → Does l kind (move s i given) edited after → Does l kind (call_of which s i given) edited after
     ran_move e after d = rw (is_move e) d
 
@@ -63,7 +65,7 @@ module _ (codes : List ℕ) (values : List Float) (j s i : ℕ) (given : Anchor)
   sub_is : s ≡ subpath_of (call_at codes values j)
   sub_is = sym (subpath-is (get_or codes (j * 3) 0) s i given) ∙ ap subpath_of call-is
 
-  module _ (l : Lent) (kind : ℕ) (edited : Edited) (left : Lent) (does : Does l kind (call_of (get_or codes (j * 3) 0) s i given) edited left) where
+  module _ (l : Lent) (kind : ℕ) (edited : Result Edited Refusal) (left : Lent) (does : Does l kind (call_of (get_or codes (j * 3) 0) s i given) edited left) where
     pub call_lists_lem : left ≡ call_lists l kind (call_at codes values j)
     call_lists_lem = does.lists ∙ ap (call_lists l kind) call-is
 

@@ -8,15 +8,19 @@ use lib.Dec.{leb, eqb}
 use lib.ListN.{length}
 use lib.Ieee.{Float}
 use borrow.Author.Tests.{leb-true}
+use Rattle.std.proofs.Common.{Result, Ok, Err}
 use Rattle.views.specs.View.{overwrite}
 use Rattle.views.proofs.Bools.{and_left, and_right}
 use Rattle.views.proofs.Laws.{length-tabulate}
+use Rattle.refusal.specs.Reasons.{refusal_at}
+use Rattle.refusal.specs.declared.Refusal.{Refusal}
+use Rattle.refusal.specs.declared.Reason.TheVariants.{Arguments, Lists}
+use Rattle.refusal.specs.declared.Reason.{Reason}
 use Rattle.refusal.specs.Order.{Test, passes, fails, holds, judge, Verdict, accepted, refused}
-use Rattle.refusal.proofs.Verdicts.{in_order, by_lists, holds_true, holds_false, holds_says, refusing}
+use Rattle.refusal.proofs.Verdicts.{in_order, by_lists, holds_true, holds_false, holds_says, answers_ok, answers_err, ok_says, err_says}
 use Rattle.path.specs.Shape.{total}
 use Rattle.path.specs.Limit.{place_in}
-use Rattle.call.specs.declared.opening.Opened.TheVariants as opened
-use Rattle.call.specs.declared.answers.Outline.TheVariants as outline
+use Rattle.call.specs.declared.answers.Outline.{Outline}
 use Rattle.call.specs.Tests.{drawing_limit}
 use Rattle.call.specs.Answers.{outline_answer, list_left}
 use Rattle.call.proofs.Openings.{places_pass, answer-refused, answer_open}
@@ -27,10 +31,8 @@ use Rattle.session.specs.Session.{answers, after_all, played}
 use Rattle.session.proofs.Judging.{places_then}
 use Rattle.session.proofs.Plays.{after-played, demand3-played}
 use Rattle.cached.specs.Opening.{lent, opened_cached}
-use Rattle.replay.specs.declared.calls.Replayed.{Replayed}
-use Rattle.replay.specs.declared.calls.Replayed.TheVariants.{Refused, Done}
 use Rattle.replay.specs.Encoding.{call_at, call_count, calls_of, calls_fit, calls_known, told, told_in}
-use Rattle.replay.specs.Replay.{stage, answer_word, unknown_verdict, answered, replay_verdict, replay_answer, replay_lists, replay_answers}
+use Rattle.replay.specs.Replay.{stage, answer_word, unknown_verdict, replay_verdict, replay_answer, replay_lists, replay_answers}
 use Rattle.replay.specs.Claim.{turns, Claim}
 use Rattle.replay.proofs.Stages.{stage-played, told-answers}
 
@@ -39,12 +41,12 @@ module _ (l : Lent) where
   abbrev n : ℕ
   n = total l.shapes
 
-  pub unknown_closed : (c k : ℕ) → opened_cached l ≡ opened.Refused c k → Refused c k ≡ answered (unknown_verdict l) 0
-  unfolding opened_cached unknown_verdict drawing_limit answered
-  unknown_closed c k e = rw (answer-refused (lists_fit l) (place_in l.anchors l.radii) n c k e false accepted)
+  pub unknown_closed : (why : Refusal) → opened_cached l ≡ Err why → refused why ≡ unknown_verdict l
+  unfolding opened_cached unknown_verdict drawing_limit
+  unknown_closed why e = sym (answer-refused (lists_fit l) (place_in l.anchors l.radii) n why e false accepted)
 
-  pub unknown_open : (m : ℕ) → opened_cached l ≡ opened.Anchors m → Refused 5 m ≡ answered (unknown_verdict l) 0
-  unfolding opened_cached unknown_verdict drawing_limit answered judge
+  pub unknown_open : (m : ℕ) → opened_cached l ≡ Ok m → refused (refusal_at Arguments m) ≡ unknown_verdict l
+  unfolding opened_cached unknown_verdict drawing_limit judge
   unknown_open m e =
       let o = answer_open (lists_fit l) (place_in l.anchors l.radii) n m e in
       rw (o.2, holds_true 0 o.0, places_pass (place_in l.anchors l.radii) n (holds false n) o.1, holds_false n refl)
@@ -55,35 +57,10 @@ module _ (l : Lent) where
   limit_fails e = true≢false (sym (holds_says false n (places_then (place_in l.anchors l.radii) n (holds false n) e)))
 
 -- what comes after a test that fails
-judge_fails : (t : Test) → (t ≡ passes → ⊥) → (c : ℕ) (v w : Verdict) → judge t c v ≡ judge t c w
+judge_fails : (t : Test) → (t ≡ passes → ⊥) → (c : Reason) (v w : Verdict) → judge t c v ≡ judge t c w
 unfolding judge
 judge_fails passes h c v w = absurd (h refl)
 judge_fails (fails k) h c v w = refl
-
--- so such a replay is always refused
-two_pass : (a b : Test) → (b ≡ passes → ⊥) → judge a 7 (judge b 5 accepted) ≡ accepted → ⊥
-unfolding judge
-two_pass passes passes h e = h refl
-two_pass passes (fails k) h e = refusing 5 k e
-two_pass (fails k) b h e = refusing 7 k e
-
-unknown_never : (l : Lent) → unknown_verdict l ≡ accepted → ⊥
-unfolding unknown_verdict
-unknown_never l e = two_pass (holds (lists_fit l) 0) (drawing_limit l.shapes l.anchors l.radii false) (limit_fails l) e
-
--- ---- `build`: what its answer says
-outline_says : (v : Verdict) (m n : ℕ) (c k : ℕ) → outline_answer v m n ≡ outline.Refused c k → v ≡ refused c k
-unfolding outline_answer
-outline_says accepted m n c k e = absurd (let z : ◌≡◌ {A = ℕ} 0 1 = cc in omega arith)
-outline_says (refused x y) m n c k e = same x y c k e
-  where
-    same : (x y c k : ℕ) → outline.Refused x y ≡ outline.Refused c k → refused x y ≡ refused c k
-    same x y c k e = cc
-
-outline_yes : (v : Verdict) (m n : ℕ) (x y : ℕ) → outline_answer v m n ≡ outline.Accepted x y → v ≡ accepted
-unfolding outline_answer
-outline_yes accepted m n x y e = refl
-outline_yes (refused c k) m n x y e = absurd (let z : ◌≡◌ {A = ℕ} 0 1 = cc in omega arith)
 
 module _ (l : Lent) (kind : ℕ) (numbers : List Float) (flags : List ℕ)
     (is-numbers : numbers ≡ build_numbers l.shapes l.anchors l.radii kind l.numbers l.flags)
@@ -93,16 +70,16 @@ module _ (l : Lent) (kind : ℕ) (numbers : List Float) (flags : List ℕ)
   unfolding built_lists
   built_is = rw (is-numbers, is-flags)
 
-  build_no : (c k : ℕ) → build_answer l.shapes l.anchors l.radii kind l.numbers l.flags ≡ outline.Refused c k
-      → (built_verdict l kind ≡ refused c k) × (lent l.shapes l.anchors l.radii numbers flags ≡ l)
-  unfolding build_answer built_verdict build_numbers build_flags list_left
-  build_no c k e =
-      let v = outline_says _ _ _ c k e in
+  build_no : (why : Refusal) → build_answer l.shapes l.anchors l.radii kind l.numbers l.flags ≡ Err why
+      → (built_verdict l kind ≡ refused why) × (lent l.shapes l.anchors l.radii numbers flags ≡ l)
+  unfolding build_answer built_verdict build_numbers build_flags list_left outline_answer
+  build_no why e =
+      let v = err_says _ _ why e in
       (v, rw (is-numbers, is-flags, v))
 
-  build_yes : (x y : ℕ) → build_answer l.shapes l.anchors l.radii kind l.numbers l.flags ≡ outline.Accepted x y → built_verdict l kind ≡ accepted
-  unfolding build_answer built_verdict
-  build_yes x y e = outline_yes _ _ _ x y e
+  build_yes : (x : Outline) → build_answer l.shapes l.anchors l.radii kind l.numbers l.flags ≡ Ok x → built_verdict l kind ≡ accepted
+  unfolding build_answer built_verdict outline_answer
+  build_yes x e = (ok_says _ _ x e).0
 
 -- the calls' lists fit
 pub fit_says : (codes : List ℕ) (values : List Float) (answers : List ℕ) → calls_fit codes values answers ≡ true
@@ -117,28 +94,28 @@ fit_says codes values answers h =
 
 module _ (l : Lent) (kind : ℕ) (codes : List ℕ) (values : List Float) (answers : List ℕ) where
   -- ---- the verdict
-  pub calls_short : calls_fit codes values answers ≡ false → replay_verdict l kind codes values answers ≡ refused 7 0
+  pub calls_short : calls_fit codes values answers ≡ false → replay_verdict l kind codes values answers ≡ refused (refusal_at Lists 0)
   unfolding replay_verdict
   calls_short e = by_lists _ _ _ _ _ _ 0 (holds_false 0 (rw e))
 
   module _ (fit : calls_fit codes values answers ≡ true) where
     pub calls_unknown : calls_known codes ≡ false → replay_verdict l kind codes values answers ≡ unknown_verdict l
     unfolding replay_verdict unknown_verdict
-    calls_unknown e = in_order _ _ _ _ _ _ ∙ rw (fit, e) (ap (judge (holds (lists_fit l) 0) 7) (judge_fails (drawing_limit l.shapes l.anchors l.radii false) (limit_fails l) 5 _ accepted))
+    calls_unknown e = in_order _ _ _ _ _ _ ∙ rw (fit, e) (ap (judge (holds (lists_fit l) 0) Lists) (judge_fails (drawing_limit l.shapes l.anchors l.radii false) (limit_fails l) Arguments _ accepted))
 
     pub calls_known_lem : calls_known codes ≡ true → replay_verdict l kind codes values answers ≡ built_verdict l kind
     unfolding replay_verdict built_verdict build_verdict lists_fit
     calls_known_lem e = rw (fit, e)
 
   -- ---- what a refusal answers and leaves
-  differ : (c k m : ℕ) → Refused c k ≡ Done m → ⊥
-  differ c k m e = let z : ◌≡◌ {A = ℕ} 0 1 = cc in omega arith
+  differ : (why : Refusal) (m : ℕ) → Err why ≡ Ok m → ⊥
+  differ why m e = let z : ◌≡◌ {A = ℕ} 0 1 = cc in omega arith
 
-  pub refuses : (c k : ℕ) → replay_verdict l kind codes values answers ≡ refused c k
-      → (Refused c k ≡ replay_answer l kind codes values answers) × (l ≡ replay_lists l kind codes values answers) × (answers ≡ replay_answers l kind codes values answers)
-      × ((m : ℕ) → Refused c k ≡ Done m → Claim l kind (calls_of codes values) l answers)
-  unfolding replay_answer replay_lists replay_answers answered lists_after list_left
-  refuses c k e = (rw e, rw e, rw e, λ m h. absurd (differ c k m h))
+  pub refuses : (why : Refusal) → replay_verdict l kind codes values answers ≡ refused why
+      → (Err why ≡ replay_answer l kind codes values answers) × (l ≡ replay_lists l kind codes values answers) × (answers ≡ replay_answers l kind codes values answers)
+      × ((m : ℕ) → Err why ≡ Ok m → Claim l kind (calls_of codes values) l answers)
+  unfolding replay_answer replay_lists replay_answers lists_after list_left
+  refuses why e = (answers_err _ e, rw e, rw e, λ m h. absurd (differ why m h))
 
   -- ---- what an acceptance leaves, and the claim
   module _ (yes : replay_verdict l kind codes values answers ≡ accepted) (built : built_verdict l kind ≡ accepted) (room : call_count codes * 5 ≤ length answers)
@@ -169,44 +146,37 @@ module _ (l : Lent) (kind : ℕ) (codes : List ℕ) (values : List Float) (answe
               ∙ ap (map told) d.answered;
         }
 
-    pub accepts : (Done (call_count codes) ≡ replay_answer l kind codes values answers) × (left ≡ replay_lists l kind codes values answers) × (out ≡ replay_answers l kind codes values answers)
-        × ((m : ℕ) → Done (call_count codes) ≡ Done m → Claim l kind (calls_of codes values) left out)
-    unfolding replay_answer replay_lists replay_answers answered lists_after list_left
-    accepts = (rw yes, rw yes left-played, rw yes written, λ m h. claim)
+    pub accepts : (Ok (call_count codes) ≡ replay_answer l kind codes values answers) × (left ≡ replay_lists l kind codes values answers) × (out ≡ replay_answers l kind codes values answers)
+        × ((m : ℕ) → ◌≡◌ {A = Result ℕ Refusal} (Ok (call_count codes)) (Ok m) → Claim l kind (calls_of codes values) left out)
+    unfolding replay_answer replay_lists replay_answers lists_after list_left
+    accepts = (answers_ok _ yes, rw yes left-played, rw yes written, λ m h. claim)
 
   -- ---- as the code comes to them
   module _ (fit : calls_fit codes values answers ≡ true) where
-    pub refuses_unknown : calls_known codes ≡ false → (r : Replayed) → r ≡ answered (unknown_verdict l) 0
-        → (r ≡ replay_answer l kind codes values answers) × (l ≡ replay_lists l kind codes values answers) × (answers ≡ replay_answers l kind codes values answers)
-        × ((m : ℕ) → r ≡ Done m → Claim l kind (calls_of codes values) l answers)
-    unfolding answered
-    refuses_unknown u r = go (unknown_verdict l) refl
-      where
-        go : (v : Verdict) → unknown_verdict l ≡ v → r ≡ answered v 0
-            → (r ≡ replay_answer l kind codes values answers) × (l ≡ replay_lists l kind codes values answers) × (answers ≡ replay_answers l kind codes values answers)
-            × ((m : ℕ) → r ≡ Done m → Claim l kind (calls_of codes values) l answers)
-        go accepted e h = absurd (unknown_never l e)
-        go (refused c k) e h = rw h (refuses c k (calls_unknown fit u ∙ e))
+    pub refuses_unknown : calls_known codes ≡ false → (why : Refusal) → refused why ≡ unknown_verdict l
+        → (Err why ≡ replay_answer l kind codes values answers) × (l ≡ replay_lists l kind codes values answers) × (answers ≡ replay_answers l kind codes values answers)
+        × ((m : ℕ) → Err why ≡ Ok m → Claim l kind (calls_of codes values) l answers)
+    refuses_unknown u why h = refuses why (calls_unknown fit u ∙ sym h)
 
     module _ (known : calls_known codes ≡ true) (numbers : List Float) (flags : List ℕ)
         (is-numbers : numbers ≡ build_numbers l.shapes l.anchors l.radii kind l.numbers l.flags)
         (is-flags : flags ≡ build_flags l.shapes l.anchors l.radii kind l.numbers l.flags) where
-      pub refuses_built : (c k : ℕ) → build_answer l.shapes l.anchors l.radii kind l.numbers l.flags ≡ outline.Refused c k
-          → (Refused c k ≡ replay_answer l kind codes values answers) × (lent l.shapes l.anchors l.radii numbers flags ≡ replay_lists l kind codes values answers)
+      pub refuses_built : (why : Refusal) → build_answer l.shapes l.anchors l.radii kind l.numbers l.flags ≡ Err why
+          → (Err why ≡ replay_answer l kind codes values answers) × (lent l.shapes l.anchors l.radii numbers flags ≡ replay_lists l kind codes values answers)
           × (answers ≡ replay_answers l kind codes values answers)
-          × ((m : ℕ) → Refused c k ≡ Done m → Claim l kind (calls_of codes values) (lent l.shapes l.anchors l.radii numbers flags) answers)
-      refuses_built c k e =
-          let n = build_no l kind numbers flags is-numbers is-flags c k e in
-          let h = refuses c k (calls_known_lem fit known ∙ n.0) in
-          (h.0, n.1 ∙ h.1, h.2, λ m x. absurd (differ c k m x))
+          × ((m : ℕ) → Err why ≡ Ok m → Claim l kind (calls_of codes values) (lent l.shapes l.anchors l.radii numbers flags) answers)
+      refuses_built why e =
+          let n = build_no l kind numbers flags is-numbers is-flags why e in
+          let h = refuses why (calls_known_lem fit known ∙ n.0) in
+          (h.0, n.1 ∙ h.1, h.2, λ m x. absurd (differ why m x))
 
-      pub accepts_built : (x y : ℕ) → build_answer l.shapes l.anchors l.radii kind l.numbers l.flags ≡ outline.Accepted x y
+      pub accepts_built : (x : Outline) → build_answer l.shapes l.anchors l.radii kind l.numbers l.flags ≡ Ok x
           → (left : Lent) → left ≡ stage kind (lent l.shapes l.anchors l.radii numbers flags) (call_at codes values) (call_count codes)
           → (out : List ℕ) → out ≡ overwrite (call_count codes * 5) (answer_word kind (lent l.shapes l.anchors l.radii numbers flags) (call_at codes values)) answers
-          → (Done (call_count codes) ≡ replay_answer l kind codes values answers) × (left ≡ replay_lists l kind codes values answers) × (out ≡ replay_answers l kind codes values answers)
-          × ((m : ℕ) → Done (call_count codes) ≡ Done m → Claim l kind (calls_of codes values) left out)
-      accepts_built x y e left is out written =
-          let v = build_yes l kind numbers flags is-numbers is-flags x y e in
+          → (Ok (call_count codes) ≡ replay_answer l kind codes values answers) × (left ≡ replay_lists l kind codes values answers) × (out ≡ replay_answers l kind codes values answers)
+          × ((m : ℕ) → ◌≡◌ {A = Result ℕ Refusal} (Ok (call_count codes)) (Ok m) → Claim l kind (calls_of codes values) left out)
+      accepts_built x e left is out written =
+          let v = build_yes l kind numbers flags is-numbers is-flags x e in
           let z = built_is l kind numbers flags is-numbers is-flags in
           accepts (calls_known_lem fit known ∙ v) v (fit_says codes values answers fit).1 left
           (is ∙ ap (λ b. stage kind b (call_at codes values) (call_count codes)) z)

@@ -7,17 +7,18 @@ use native.Mathlib.Omega.{arith}
 use mathlib.Core.Logic.{inl, inr, ⊎_elim}
 use lib.ListN.{length, get_or}
 use lib.Seq.{sets, length-sets}
+use Rattle.std.proofs.Common.{Ok, Err, Result}
 use Rattle.views.specs.View.{tabulate, overwrite}
 use Rattle.views.proofs.Laws.{order, tabulate_cong, length-overwrite, at_overwrite, past_overwrite, as_overwrite}
 use Rattle.views.proofs.Runs.{get_d_sets_in, get_d_sets_out}
 use Rattle.session.specs.declared.answers.Edited.{Edited}
-use Rattle.session.specs.declared.answers.Edited.TheVariants.{Refused, Accepted}
 use Rattle.session.specs.Drawing.{Lent}
 use Rattle.session.specs.Edits.{Call}
 use Rattle.session.specs.Calls.{call_answer, call_lists}
 use Rattle.session.specs.Session.{answers, played, turns_of}
 use Rattle.replay.specs.Encoding.{told, stands, answer_words, told_in}
 use Rattle.replay.specs.Replay.{stage, call_words, answer_word}
+use Rattle.refusal.specs.declared.Refusal.{Refusal}
 
 module _ (kind : ℕ) where
   -- ---- the lists
@@ -60,10 +61,10 @@ answers-none f [] = refl
 answers-none f (x ∷ xs) = refl
 
 -- one answer more: its five words, behind those before
-five-words : (e : Edited) (shapes : List ℕ) (s : ℕ) → length (answer_words e shapes s) ≡ 5
+five-words : (e : Result Edited Refusal) (shapes : List ℕ) (s : ℕ) → length (answer_words e shapes s) ≡ 5
 unfolding answer_words told stands
-five-words (Refused number place) shapes s = refl
-five-words (Accepted recut n) shapes s = refl
+five-words (Err why) shapes s = refl
+five-words (Ok x) shapes s = refl
 
 module _ (kind : ℕ) (l : Lent) (f : ℕ → Call) (xs : List ℕ) (j : ℕ) (room : j * 5 + 5 ≤ length xs) where
   abbrev before : List ℕ
@@ -103,11 +104,11 @@ map-tabulate g zero f = refl
 map-tabulate g (suc n) f = ap (λ l. g (f zero) ∷ l) (map-tabulate g n (λ i. f (suc i)))
 
 -- the first three words of five
-first_three : (e : Edited) (shapes : List ℕ) (s : ℕ)
+first_three : (e : Result Edited Refusal) (shapes : List ℕ) (s : ℕ)
     → get_or (answer_words e shapes s) 0 0 ∷ get_or (answer_words e shapes s) 1 0 ∷ get_or (answer_words e shapes s) 2 0 ∷ [] ≡ told e
 unfolding answer_words told stands
-first_three (Refused number place) shapes s = refl
-first_three (Accepted recut n) shapes s = refl
+first_three (Err why) shapes s = refl
+first_three (Ok x) shapes s = refl
 
 -- the answers written tell what the calls answered
 module _ (kind : ℕ) (l : Lent) (f : ℕ → Call) (n : ℕ) (xs : List ℕ) (room : n * 5 ≤ length xs) where

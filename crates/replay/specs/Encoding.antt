@@ -1,12 +1,14 @@
 -- A list of calls in words and numbers: three words and six numbers a call, and the five words that tell its answer. Assumes nothing.
+use Rattle.std.proofs.Common.{Ok, Err, Result}
 use Rattle.std.specs.Prelude.{ℕ, ◌+◌, ◌*◌, ◌/◌, ◌%◌, ◌≤◌, ◌<◌, Bool, ◌&&◌, cond, List, [], ◌∷◌, ◌++◌, leb, eqb, length, get_or, Float}
 use Rattle.views.specs.View.{tabulate}
 use Rattle.views.specs.Search.{all}
 use Rattle.path.specs.declared.anchor.Anchor.{Anchor}
 use Rattle.path.specs.Flat.{anchor_at}
 use Rattle.path.specs.Shape.{total, word_at, start}
+use Rattle.refusal.specs.declared.Refusal.{Refusal}
+use Rattle.refusal.specs.Reasons.{number_of}
 use Rattle.session.specs.declared.answers.Edited.{Edited}
-use Rattle.session.specs.declared.answers.Edited.TheVariants.{Refused, Accepted}
 use Rattle.session.specs.Edits.{Call, move, set_radius, split}
 
 -- ---- the calls
@@ -34,22 +36,22 @@ calls_known codes = all (λ j. leb (get_or codes (j * 3) 0) 2) (call_count codes
 
 -- ---- the answers
 -- the first three words: number, place, 0; or 0, how many places were recut, how many anchors there are
-unfoldable pub told : Edited → List ℕ
-told (Refused number place) = number ∷ place ∷ 0 ∷ []
-told (Accepted recut n) = 0 ∷ recut ∷ n ∷ []
+unfoldable pub told : Result Edited Refusal → List ℕ
+told (Err why) = number_of why.reason ∷ why.place ∷ 0 ∷ []
+told (Ok e) = 0 ∷ e.recut ∷ e.anchors ∷ []
 
 -- the last two: where the call's subpath starts and its shape word, as the edit leaves them
-unfoldable pub stands : Edited → List ℕ → ℕ → List ℕ
-stands (Refused number place) shapes s = 0 ∷ 0 ∷ []
-stands (Accepted recut n) shapes s = start shapes s ∷ word_at shapes s ∷ []
+unfoldable pub stands : Result Edited Refusal → List ℕ → ℕ → List ℕ
+stands (Err why) shapes s = 0 ∷ 0 ∷ []
+stands (Ok e) shapes s = start shapes s ∷ word_at shapes s ∷ []
 
-unfoldable pub answer_words : Edited → List ℕ → ℕ → List ℕ
+unfoldable pub answer_words : Result Edited Refusal → List ℕ → ℕ → List ℕ
 answer_words e shapes s = told e ++ stands e shapes s
 
 -- they fit: no place or count is above 512, and an accepted call's subpath is there
-abbrev pub Small : Edited → List ℕ → ℕ → Type 0
-Small (Refused number place) shapes s = place ≤ 512
-Small (Accepted recut n) shapes s = (recut ≤ 512) × (n ≤ 512) × (s < length shapes) × (length shapes ≤ 32) × (total shapes ≤ 512)
+abbrev pub Small : Result Edited Refusal → List ℕ → ℕ → Type 0
+Small (Err why) shapes s = why.place ≤ 512
+Small (Ok e) shapes s = (e.recut ≤ 512) × (e.anchors ≤ 512) × (s < length shapes) × (length shapes ≤ 32) × (total shapes ≤ 512)
 
 unfoldable pub subpath_of : Call → ℕ
 subpath_of (move s i new) = s

@@ -1,6 +1,9 @@
 -- What `replay` answers and leaves: the fresh cache of a drawing, then encoded calls one after the other. Assumes nothing.
+use Rattle.std.proofs.Common.{Result}
 use Rattle.std.specs.Prelude.{ℕ, zero, suc, ◌*◌, ◌/◌, ◌%◌, false, ◌&&◌, List, get_or, Float}
-use Rattle.refusal.specs.Order.{passes, holds, judge, Verdict, accepted, refused, verdict, tests}
+use Rattle.refusal.specs.declared.Refusal.{Refusal}
+use Rattle.refusal.specs.declared.Reason.TheVariants.{Arguments, Lists}
+use Rattle.refusal.specs.Order.{passes, holds, judge, Verdict, accepted, verdict, tests, answering}
 use Rattle.path.specs.Shape.{total}
 use Rattle.call.specs.Tests.{places, drawing_limit}
 use Rattle.call.specs.Answers.{list_left}
@@ -11,8 +14,6 @@ use Rattle.session.specs.Drawing.{Lent}
 use Rattle.session.specs.Edits.{Call}
 use Rattle.session.specs.Calls.{lists_fit, lists_after, call_answer, call_lists, built_lists}
 use Rattle.session.specs.Session.{played}
-use Rattle.replay.specs.declared.calls.Replayed.{Replayed}
-use Rattle.replay.specs.declared.calls.Replayed.TheVariants.{Refused, Done}
 use Rattle.replay.specs.Encoding.{call_at, call_count, calls_of, calls_fit, calls_known, answer_words, subpath_of}
 
 -- ---- the calls f 0, f 1, .. on lists l: the lists after the first j of them
@@ -42,15 +43,11 @@ replay_verdict l kind codes values answers =
 
 -- what refuses where a call is none of the three
 unfoldable pub unknown_verdict : Lent → Verdict
-unknown_verdict l = judge (holds (lists_fit l) 0) 7 (judge (drawing_limit l.shapes l.anchors l.radii false) 5 accepted)
-
-unfoldable pub answered : Verdict → ℕ → Replayed
-answered accepted m = Done m
-answered (refused number place) m = Refused number place
+unknown_verdict l = judge (holds (lists_fit l) 0) Lists (judge (drawing_limit l.shapes l.anchors l.radii false) Arguments accepted)
 
 -- how many calls
-unfoldable pub replay_answer : Lent → ℕ → List ℕ → List Float → List ℕ → Replayed
-replay_answer l kind codes values answers = answered (replay_verdict l kind codes values answers) (call_count codes)
+unfoldable pub replay_answer : Lent → ℕ → List ℕ → List Float → List ℕ → Result ℕ Refusal
+replay_answer l kind codes values answers = answering (replay_verdict l kind codes values answers) (call_count codes)
 
 -- the drawing and its cache
 unfoldable pub replay_lists : Lent → ℕ → List ℕ → List Float → List ℕ → Lent

@@ -7,4 +7,4 @@ mod running;
 mod telling;
 mod testing;
 
-pub use calls::{Replayed, replay};
+pub use calls::replay;

@@ -10,6 +10,7 @@ ghost use Rattle.replay.specs.Replay.{stage, call_words, answer_word};
 
 use crate::telling::put_answer;
 use path::{Anchor, AnchorRef};
+use refusal::Refusal;
 use session::Edited;
 
 // One call: a move, a radius, and else a split.
@@ -23,7 +24,7 @@ fn run_one(
     which: u32,
     at: AnchorRef,
     given: Anchor,
-) -> Edited
+) -> Result<Edited, Refusal>
     ensures { Does (lent shapes.old anchors.old radii.old numbers.old flags.old) kind (call_of which at.subpath at.anchor given) result (lent shapes.new anchors.new radii.new numbers.new flags.new) }
 {
     if which == 0 {

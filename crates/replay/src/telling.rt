@@ -1,9 +1,9 @@
 // The five words of an answer.
-ghost use Rattle.std.specs.Prelude.{◌≡◌, [], ◌∷◌, ◌+◌, ◌*◌, ◌≤◌, ◌<◌, length};
+ghost use Rattle.std.specs.Prelude.{◌≡◌, Ok, [], ◌∷◌, ◌+◌, ◌*◌, ◌≤◌, ◌<◌, length};
 ghost use Rattle.std.proofs.lemmas.List.Edits.{sets};
-ghost use Rattle.path.specs.Shape.{total, word_at, start};
 ghost use Rattle.replay.specs.Encoding.{answer_words, Small};
 
+use refusal::Refusal;
 use session::Edited;
 
 // The five words of answer j.
@@ -20,29 +20,35 @@ fn put_words(answers: &mut [u32], j: usize, a: u32, b: u32, c: u32, d: u32, e: u
 }
 
 // An accepted call's, with the shape words as it left them.
-fn put_accepted(answers: &mut [u32], j: usize, recut: usize, n: usize, shapes: &[u32], s: usize)
-    requires { (j * 5 + 5 ≤ length answers.old) × (recut ≤ 512) × (n ≤ 512) × (s < length shapes.now) × (length shapes.now ≤ 32) × (total shapes.now ≤ 512) }
-    ensures { answers.new ≡ sets answers.old (j * 5) (0 ∷ recut ∷ n ∷ start shapes.now s ∷ word_at shapes.now s ∷ []) }
+fn put_accepted(answers: &mut [u32], j: usize, edited: Edited, shapes: &[u32], s: usize)
+    requires { (j * 5 + 5 ≤ length answers.old) × Small (Ok edited) shapes.now s }
+    ensures { answers.new ≡ sets answers.old (j * 5) (answer_words (Ok edited) shapes.now s) }
 {
     let first = path::total_of(&shapes[..s]);
     put_words(
         answers,
         j,
         0,
-        recut as u32,
-        n as u32,
+        edited.recut as u32,
+        edited.anchors as u32,
         first as u32,
         shapes[s],
     );
 }
 
 // What call j on subpath s was answered.
-pub fn put_answer(answers: &mut [u32], j: usize, edited: Edited, shapes: &[u32], s: usize)
-    requires { (j * 5 + 5 ≤ length answers.old) × Small edited shapes.now s }
-    ensures { answers.new ≡ sets answers.old (j * 5) (answer_words edited shapes.now s) }
+pub fn put_answer(
+    answers: &mut [u32],
+    j: usize,
+    answered: Result<Edited, Refusal>,
+    shapes: &[u32],
+    s: usize,
+)
+    requires { (j * 5 + 5 ≤ length answers.old) × Small answered shapes.now s }
+    ensures { answers.new ≡ sets answers.old (j * 5) (answer_words answered shapes.now s) }
 {
-    match edited {
-        Edited::Refused(number, place) => put_words(answers, j, number, place as u32, 0, 0, 0),
-        Edited::Accepted(recut, n) => put_accepted(answers, j, recut, n, shapes, s),
+    match answered {
+        Err(why) => put_words(answers, j, u32::from(why.reason), why.place as u32, 0, 0, 0),
+        Ok(edited) => put_accepted(answers, j, edited, shapes, s),
     }
 }

@@ -9,6 +9,8 @@ use lib.Ieee.{Float}
 use Rattle.views.specs.View.{entry}
 use Rattle.views.specs.Search.{all}
 use Rattle.real.specs.Limit.{in_limit}
+use Rattle.refusal.specs.declared.Reason.TheVariants.{Arguments, Made}
+use Rattle.refusal.specs.Reasons.{refusal_at}
 use Rattle.refusal.specs.Order.{passes, Verdict, accepted, refused}
 use Rattle.path.specs.declared.anchor.Anchor.{Anchor}
 use Rattle.path.specs.Shape.{total}
@@ -48,7 +50,7 @@ use Rattle.reporting.proofs.Gathering.{held_plain, gathers-held}
 left-length : {A : Type 0} (v : Verdict) (m : ℕ) (f : ℕ → A) (xs : List A) → length (list_left v m f xs) ≡ length xs
 unfolding list_left
 left-length accepted m f xs = length-overwrite m f xs
-left-length (refused n place) m f xs = refl
+left-length (refused why) m f xs = refl
 
 -- ---- two drawings that are alike at their places, where lists hold one and its cut
 cached_alike : (f g : ℕ → Place) (k : ℕ) → f k ≡ g k → cached_in f k ≡ cached_in g k
@@ -145,11 +147,11 @@ module _ (l : Lent) (kind : ℕ) (d : Drawn l.shapes l.anchors l.radii kind) whe
           rw (places_pass (cached_in (places_of (drawn l kind))) (total l.shapes) passes good, ← e) (ap₂ report_of (sym x.lines) (ap fitted (sym u)))
 
 -- ---- and where one does, or a call is none of the three
-pub report_bad : (d : Drawing) (cs : List Call) (k : ℕ) → Least (cached_in (places_of d)) (total d.shapes) k → refusing 9 k ≡ drawing_report true cs d
+pub report_bad : (d : Drawing) (cs : List Call) (k : ℕ) → Least (cached_in (places_of d)) (total d.shapes) k → refusing (refusal_at Made k) ≡ drawing_report true cs d
 unfolding drawing_report ran_report
 report_bad d cs k h = rw (places_fail (cached_in (places_of d)) (total d.shapes) passes k h)
 
-pub report_unknown : (d : Drawing) (cs : List Call) → refusing 5 (total d.shapes) ≡ drawing_report false cs d
+pub report_unknown : (d : Drawing) (cs : List Call) → refusing (refusal_at Arguments (total d.shapes)) ≡ drawing_report false cs d
 unfolding drawing_report
 report_unknown d cs = refl
 

@@ -5,8 +5,9 @@ use Prim.Native.Nat.{ℕ, ◌+◌, ◌-◌, ◌*◌}
 use native.Mathlib.Omega.{arith}
 use lib.ListN.{length, take, drop, length-drop}
 use lib.Seq.{take_all}
+use Rattle.std.proofs.Common.{Ok, Err}
+use Rattle.refusal.specs.declared.Refusal.{Refusal}
 use Rattle.replay.specs.Encoding.{calls_of, calls_known}
-use Rattle.call_list.specs.declared.calls.Calls.TheVariants.{Refused, Read}
 use Rattle.call_list.specs.Input.{calls_answer, codes_in, values_in}
 use Rattle.reporting.specs.Report.{refusing, job_report, calls_report, reported}
 
@@ -15,11 +16,11 @@ pub rest : (n : ℕ) (l : List ℕ) → take (length l - n) (drop n l) ≡ drop 
 rest n l = take_all (length l - n) (drop n l) (omega (arith, length-drop n l))
 
 -- ---- what is printed
-pub report-refused : (bytes : List ℕ) (n place : ℕ) → calls_answer bytes ≡ Refused n place → refusing n place ≡ reported bytes
+pub report-refused : (bytes : List ℕ) (why : Refusal) → calls_answer bytes ≡ Err why → refusing why ≡ reported bytes
 unfolding reported calls_report
-report-refused bytes n place e = rw e
+report-refused bytes why e = rw e
 
-pub report_calls : (bytes : List ℕ) (m : ℕ) → calls_answer bytes ≡ Read m
+pub report_calls : (bytes : List ℕ) (m : ℕ) → calls_answer bytes ≡ Ok m
     → job_report (calls_known (codes_in bytes)) (calls_of (codes_in bytes) (values_in bytes)) (drop (4 + m * 36) bytes) ≡ reported bytes
 unfolding reported calls_report
 report_calls bytes m e = rw e

@@ -24,7 +24,8 @@ use Rattle.job.specs.Grammar.{Job, Within}
 use Rattle.job.specs.Content.{shape_words, job_numbers, job_radii}
 use Rattle.std.proofs.Common.{Result, Ok, Err}
 use Rattle.refusal.specs.declared.Refusal.{Refusal}
-use Rattle.refusal.specs.Reasons.{number_of}
+use Rattle.refusal.specs.declared.Reason.TheVariants.{Unended}
+use Rattle.refusal.specs.Reasons.{refusal_at}
 use Rattle.job_calls.specs.Call.{file_read, outcome, anchors_left, radii_left, answer_read, shapes_read, anchors_read, radii_read}
 use Rattle.job_calls.specs.declared.result.Read.{Read}
 use Rattle.job.proofs.Numbers.{job-numbers_in, job_radii_in}
@@ -109,7 +110,7 @@ module _ (j : Job) (w : Within j) (n : ℕ) (few : n ≤ 512) (xs rs : List Floa
   lists_report known cs = report-alike (lent (shape_words j) xs rs numbers flags) j.kind lists_drawn fit wide _ _ alike known cs
 
 -- ---- the file's own refusals
-pub report_long : (known : Bool) (cs : List Call) (bytes : List ℕ) → 32768 < length bytes → refusing 1 8192 ≡ job_report known cs bytes
+pub report_long : (known : Bool) (cs : List Call) (bytes : List ℕ) → 32768 < length bytes → refusing (refusal_at Unended 8192) ≡ job_report known cs bytes
 unfolding job_report
 report_long known cs bytes h = rw (lt-leb (length bytes) 32768 h)
 
@@ -137,14 +138,14 @@ module _ (bytes shapes : List ℕ) (anchors radii : List Float) (wide : length s
       go (Ok j) = length-overwrite _ _ radii ∙ each
 
   module _ (known : Bool) (cs : List Call) (short : length bytes ≤ 32768) where
-    pub read_refuses : (r : Refusal) → answer_read bytes shapes anchors radii ≡ Err r → refusing (number_of r.reason) r.place ≡ job_report known cs bytes
+    pub read_refuses : (r : Refusal) → answer_read bytes shapes anchors radii ≡ Err r → refusing r ≡ job_report known cs bytes
     unfolding read_report
     read_refuses r a = go (file_read bytes) refl
       where
-        same_refusal : {e : Refusal} → ◌≡◌ {A = Result Read Refusal} (Err e) (Err r) → refusing (number_of r.reason) r.place ≡ refusing (number_of e.reason) e.place
+        same_refusal : {e : Refusal} → ◌≡◌ {A = Result Read Refusal} (Err e) (Err r) → refusing r ≡ refusing e
         same_refusal {e} q = let z : e ≡ r = cc in rw z
 
-        go : (x : Result Job Refusal) → file_read bytes ≡ x → refusing (number_of r.reason) r.place ≡ job_report known cs bytes
+        go : (x : Result Job Refusal) → file_read bytes ≡ x → refusing r ≡ job_report known cs bytes
         go (Err e) h = same_refusal (sym (refuses bytes shapes anchors radii wide long each h) ∙ a) ∙ report-read known cs bytes short h
         go (Ok j) h =
             let b = accepts bytes shapes anchors radii wide long each j (file_sound bytes j h) h in

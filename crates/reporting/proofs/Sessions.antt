@@ -3,12 +3,13 @@ use mathlib.Core.Path.{◌≡◌, refl, sym, ap, ap₂, subst, ◌∙◌}
 use mathlib.Core.List.{List, [], ◌∷◌, ◌++◌}
 use Prim.Native.Nat.{ℕ, ◌*◌}
 use Rattle.views.proofs.Laws.{length-overwrite}
+use Rattle.std.proofs.Common.{Ok, Err, Result}
+use Rattle.refusal.specs.declared.Refusal.{Refusal}
 use Rattle.refusal.specs.Order.{Verdict, accepted, refused}
 use Rattle.path.specs.Shape.{total, word_at, start}
 use Rattle.path.specs.Flat.{anchor_numbers}
 use Rattle.edit.specs.Split.{split_shapes}
 use Rattle.session.specs.declared.answers.Edited.{Edited}
-use Rattle.session.specs.declared.answers.Edited.TheVariants.{Refused, Accepted}
 use Rattle.session.specs.Drawing.{Drawing, Lent, drawn}
 use Rattle.session.specs.Edits.{Call, move, set_radius, split, Edit, edit_of, moved, resized, split_at}
 use Rattle.session.specs.Calls.{numbers_after, flags_after, edited_lists, lists_after, call_verdict, call_answer, call_lists}
@@ -33,7 +34,7 @@ turn_lines kind l (c ∷ cs) = turn_line l kind c ++ turn_lines kind (call_lists
 -- ---- a call changes no list's length
 left-lengths : (v : Verdict) (l : Lent) (e : Edit) → lengths_of (lists_after v (edited_lists l e) l) ≡ lengths_of l
 unfolding lengths_of lists_after edited_lists
-left-lengths (refused c k) l e = refl
+left-lengths (refused why) l e = refl
 left-lengths accepted l e =
     let n = total e.made.shapes in
     λ t. record {
@@ -67,10 +68,10 @@ recuts_same d m c e k =
     ∙ ap₂ (λ xs ys. reached_in (sub_from (start xs (subpath_of c)) (word_at ys (subpath_of c))) (window_in c) k) e (made-same d m c e)
     ∙ sym (recuts_reached m c k)
 
-text_same : (a : Edited) (d m : Drawing) (c : Call) → d.shapes ≡ m.shapes → edited_text a (edit_of d c) ≡ edited_text a (edit_of m c)
+text_same : (a : Result Edited Refusal) (d m : Drawing) (c : Call) → d.shapes ≡ m.shapes → edited_text a (edit_of d c) ≡ edited_text a (edit_of m c)
 unfolding edited_text
-text_same (Refused n place) d m c e = refl
-text_same (Accepted recut n) d m c e = ap recut_text (passing_cong _ _ n (λ k l. recuts_same d m c e k))
+text_same (Err why) d m c e = refl
+text_same (Ok x) d m c e = ap recut_text (passing_cong _ _ x.anchors (λ k l. recuts_same d m c e k))
 
 -- ---- the induction
 pub record Ran (kind : ℕ) (cs : List Call) (b : Lent) (m : Drawing) (n : Lengths) : Type 0 where

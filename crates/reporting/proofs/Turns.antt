@@ -1,22 +1,26 @@
 -- A call on lent lists: what is put of its answer's words is its line, and an accepted call's words are sound. Assumes nothing.
 use mathlib.Core.Path.{◌≡◌, refl, sym, ap, ◌∙◌}
 use mathlib.Core.Bool.{Bool, true, ◌&&◌}
-use mathlib.Core.List.{List, [], ◌∷◌}
+use mathlib.Core.List.{List}
 use Prim.Native.Nat.{ℕ, zero, suc, ◌+◌, ◌-◌, ◌≤◌, ◌<◌}
 use native.Mathlib.Nat.{le_refl}
 use native.Mathlib.Omega.{arith}
 use lib.Dec.{leb}
 use lib.ListN.{length}
 use borrow.Author.Tests.{leb-true, ne_eqb}
-use Rattle.views.specs.Search.{count}
 use Rattle.views.proofs.Bools.{and_left, and_right}
-use Rattle.refusal.specs.Order.{Rank, lists, arguments, reference, capacity, result, output, number, Test, passes, fails, judge, first_failing, Verdict, accepted, refused, verdict}
-use Rattle.refusal.proofs.Verdicts.{holds_says, accepted_says}
+use Rattle.std.proofs.Common.{Ok, Err}
+use Rattle.refusal.specs.declared.Reason.{Reason}
+use Rattle.refusal.specs.declared.Reason.TheVariants.{Unended, Misplaced, Empty, Full, Arguments, Reference, Lists, Output, Made, Capacity}
+use Rattle.refusal.specs.declared.Refusal.{Refusal}
+use Rattle.refusal.specs.Reasons.{number_of}
+use Rattle.refusal.specs.Order.{accepted}
+use Rattle.refusal.proofs.Verdicts.{holds_says, accepted_says, ok_says}
 use Rattle.path.specs.Shape.{count_of, total, word_at, start}
 use Rattle.path.proofs.Shapes.{total_in, has_says}
 use Rattle.cut.specs.declared.subpath.Sub.{Sub}
 use Rattle.cut.specs.declared.subpath.Window.{Window}
-use Rattle.session.specs.declared.answers.Edited.TheVariants.{Refused, Accepted}
+use Rattle.session.specs.declared.answers.Edited.{Edited}
 use Rattle.session.specs.Drawing.{Drawing, Lent, drawn}
 use Rattle.session.specs.Edits.{Call, move, set_radius, split, Edit, edit_of, moved, resized, split_at}
 use Rattle.session.specs.Calls.{lists_fit, edit_verdict, edit_answer, edited_lists, lists_after, call_verdict, call_answer, call_lists}
@@ -33,28 +37,17 @@ use Rattle.call_lines.proofs.Places.{passing-same}
 use Rattle.reporting.proofs.Theorems.{reached_past, recuts_reached}
 
 -- ---- no refusal has number 0
-some_number : (r : Rank) → 0 < number r
-some_number lists = omega arith
-some_number arguments = omega arith
-some_number reference = omega arith
-some_number capacity = omega arith
-some_number result = omega arith
-some_number output = omega arith
-
-first_number : (rs : List Rank) (test : Rank → Test) (n place : ℕ) → first_failing rs test ≡ refused n place → 0 < n
-unfolding first_failing judge
-first_number [] test n place e = absurd (apart e)
-  where
-    apart : accepted ≡ refused n place → ⊥
-    apart q = let z : ◌≡◌ {A = ℕ} 0 1 = cc in omega arith
-first_number (r ∷ rs) test n place e = go (test r) e (first_number rs test n place)
-  where
-    same_number : {k : ℕ} → refused (number r) k ≡ refused n place → number r ≡ n
-    same_number q = cc
-
-    go : (t : Test) → judge t (number r) (first_failing rs test) ≡ refused n place → (first_failing rs test ≡ refused n place → 0 < n) → 0 < n
-    go passes q later = later q
-    go (fails k) q later = rw (← same_number q) (some_number r)
+pub some_number : (r : Reason) → 0 < number_of r
+some_number Unended = omega arith
+some_number Misplaced = omega arith
+some_number Empty = omega arith
+some_number Full = omega arith
+some_number Arguments = omega arith
+some_number Reference = omega arith
+some_number Lists = omega arith
+some_number Output = omega arith
+some_number Made = omega arith
+some_number Capacity = omega arith
 
 -- ---- an edit whose subpath, anchor or segment is there: that subpath as it leaves it
 record Stands (d : Drawing) (c : Call) : Type 0 where
@@ -108,38 +101,14 @@ module _ (l : Lent) (kind : ℕ) (c : Call) where
   turn_line = edited_line (call_answer l kind c) (edit_of (drawn l kind) c)
 
   -- ---- refused
-  pub refused_some : (x place : ℕ) → call_answer l kind c ≡ Refused x place → 0 < x
-  unfolding call_answer edit_answer call_verdict edit_verdict verdict
-  refused_some x place = go (call_verdict l kind c) refl
-    where
-      same_number : {y k : ℕ} → Refused y k ≡ Refused x place → y ≡ x
-      same_number q = cc
-
-      apart : {r m : ℕ} → Accepted r m ≡ Refused x place → ⊥
-      apart q = let z : ◌≡◌ {A = ℕ} 0 1 = cc in omega arith
-
-      go : (v : Verdict) → call_verdict l kind c ≡ v → edit_answer v (count e.recuts n) n ≡ Refused x place → 0 < x
-      go accepted q h = absurd (apart h)
-      go (refused y k) q h = rw (← same_number h) (first_number _ _ y k q)
-
-  pub line_refused : (x place first word : ℕ) → call_answer l kind c ≡ Refused x place → call_line (which_of c) (index_of c) x place first word ≡ turn_line
+  pub line_refused : (why : Refusal) (first word : ℕ) → call_answer l kind c ≡ Err why → call_line (which_of c) (index_of c) (number_of why.reason) why.place first word ≡ turn_line
   unfolding call_line call_text edited_line edited_text
-  line_refused x place first word h = rw (h, ne_eqb x 0 (λ q. omega (arith, refused_some x place h)))
+  line_refused why first word h = rw (h, ne_eqb (number_of why.reason) 0 (λ q. omega (arith, some_number why.reason)))
 
   -- ---- accepted
-  pub accepted_so : (recut m : ℕ) → call_answer l kind c ≡ Accepted recut m → (call_verdict l kind c ≡ accepted) × (m ≡ total (edit_of (drawn l kind) c).made.shapes)
+  pub accepted_so : (x : Edited) → call_answer l kind c ≡ Ok x → (call_verdict l kind c ≡ accepted) × (x.anchors ≡ total (edit_of (drawn l kind) c).made.shapes)
   unfolding call_answer edit_answer
-  accepted_so recut m = go (call_verdict l kind c)
-    where
-      apart : {y k : ℕ} → Refused y k ≡ Accepted recut m → ⊥
-      apart q = let z : ◌≡◌ {A = ℕ} 0 1 = cc in omega arith
-
-      same_count : {r k : ℕ} → Accepted r k ≡ Accepted recut m → m ≡ k
-      same_count q = cc
-
-      go : (v : Verdict) → edit_answer v (count e.recuts n) n ≡ Accepted recut m → (v ≡ accepted) × (m ≡ n)
-      go accepted h = (refl, same_count h)
-      go (refused y k) h = absurd (apart h)
+  accepted_so x h = let a = ok_says _ _ x h in (a.0, sym (ap (λ y. y.anchors) a.1))
 
   module _ (yes : call_verdict l kind c ≡ accepted) where
     fits : (small_path l.shapes && long_for (lengths_of l) (total l.shapes)) ≡ true
@@ -183,7 +152,7 @@ module _ (l : Lent) (kind : ℕ) (c : Call) where
     unfolding sub_from
     recut_here = passing_cong _ _ n (λ k h. recuts_reached (drawn l kind) c k) ∙ recut-all (sub_left (drawn l kind) c) (window_in c) n there.inside
 
-    pub line_accepted : (recut : ℕ) → call_answer l kind c ≡ Accepted recut (total (edit_of (drawn l kind) c).made.shapes)
-        → call_line (which_of c) (index_of c) 0 recut (start (call_lists l kind c).shapes (subpath_of c)) (word_at (call_lists l kind c).shapes (subpath_of c)) ≡ turn_line
+    pub line_accepted : (x : Edited) → call_answer l kind c ≡ Ok x → x.anchors ≡ total (edit_of (drawn l kind) c).made.shapes
+        → call_line (which_of c) (index_of c) 0 x.recut (start (call_lists l kind c).shapes (subpath_of c)) (word_at (call_lists l kind c).shapes (subpath_of c)) ≡ turn_line
     unfolding call_line call_text edited_line edited_text
-    line_accepted recut h = rw (h, sub-left, recut_here)
+    line_accepted x h k = rw (h, sub-left, k, recut_here)

@@ -3,7 +3,8 @@
 use Rattle.std.specs.Prelude.{ℕ, ◌+◌, ◌*◌, Bool, cond, List, [], ◌∷◌, ◌++◌, leb, length, drop, Float, Result, Ok, Err}
 use Rattle.views.specs.View.{entry}
 use Rattle.refusal.specs.declared.Refusal.{Refusal}
-use Rattle.refusal.specs.Reasons.{number_of}
+use Rattle.refusal.specs.declared.Reason.TheVariants.{Unended, Arguments, Made}
+use Rattle.refusal.specs.Reasons.{number_of, refusal_at}
 use Rattle.refusal.specs.Order.{Test, passes, fails}
 use Rattle.path.specs.Shape.{total}
 use Rattle.path.specs.Flat.{anchor_at}
@@ -14,15 +15,12 @@ use Rattle.job.specs.Content.{shape_words, job_numbers, job_radii}
 use Rattle.job_calls.specs.Call.{file_read}
 use Rattle.replay.specs.Encoding.{calls_of, calls_known}
 use Rattle.session.specs.declared.answers.Edited.{Edited}
-use Rattle.session.specs.declared.answers.Edited.TheVariants.{Refused, Accepted}
 use Rattle.session.specs.Drawing.{Drawing}
 use Rattle.session.specs.Edits.{Call, Edit, edit_of, places_of}
 use Rattle.session.specs.Model.{Lengths, Fed, model_answer, model_next, model_after}
 use Rattle.session.specs.Outline.{plain_text}
 use Rattle.printing.specs.Refused.{refused_text}
 use Rattle.printing.specs.Printed.{fitted}
-use Rattle.call_list.specs.declared.calls.Calls as declared
-use Rattle.call_list.specs.declared.calls.Calls.TheVariants as calls
 use Rattle.call_list.specs.Input.{calls_answer, codes_in, values_in}
 use Rattle.call_lines.specs.Lines.{passing, recut_text}
 
@@ -34,15 +32,15 @@ pub record Report : Type 0 where
 abbrev pub report_of : List ℕ → List ℕ → Report
 report_of lines text = record { lines = lines; text = text }
 
-abbrev pub refusing : ℕ → ℕ → Report
-refusing n place = report_of [] (refused_text n place)
+abbrev pub refusing : Refusal → Report
+refusing why = report_of [] (refused_text (number_of why.reason) why.place)
 
--- ---- the line of a call: its refusal, or the places that its edit recuts, of the n that there then are
-unfoldable pub edited_text : Edited → Edit → List ℕ
-edited_text (Refused n place) e = refused_text n place
-edited_text (Accepted recut n) e = recut_text (passing e.recuts n)
+-- ---- the line of a call: its refusal, or the places that its edit recuts, of all that there then are
+unfoldable pub edited_text : Result Edited Refusal → Edit → List ℕ
+edited_text (Err why) e = refused_text (number_of why.reason) why.place
+edited_text (Ok x) e = recut_text (passing e.recuts x.anchors)
 
-unfoldable pub edited_line : Edited → Edit → List ℕ
+unfoldable pub edited_line : Result Edited Refusal → Edit → List ℕ
 edited_line a e = edited_text a e ++ 10 ∷ []
 
 -- ---- calls, from a drawing on
@@ -61,12 +59,12 @@ fed_all n (c ∷ cs) = record { call = c; lengths = n } ∷ fed_all n cs
 -- unless the drawing's own cut breaks the limit
 unfoldable pub ran_report : Test → Drawing → List Fed → Report
 ran_report passes d fs = report_of (model_lines d fs) (fitted (plain_text (model_after d fs)))
-ran_report (fails k) d fs = refusing 9 k
+ran_report (fails k) d fs = refusing (refusal_at Made k)
 
 -- or a call is none of the three
 unfoldable pub drawing_report : Bool → List Call → Drawing → Report
 drawing_report known calls d =
-    cond known (ran_report (places (cached_in (places_of d)) (total d.shapes) passes) d (fed_all roomy calls)) (refusing 5 (total d.shapes))
+    cond known (ran_report (places (cached_in (places_of d)) (total d.shapes) passes) d (fed_all roomy calls)) (refusing (refusal_at Arguments (total d.shapes)))
 
 -- ---- on a job
 abbrev pub drawing : List ℕ → List Float → List Float → ℕ → Drawing
@@ -76,17 +74,17 @@ abbrev pub job_drawing : Job → Drawing
 job_drawing j = drawing (shape_words j) (job_numbers j) (job_radii j) j.kind
 
 unfoldable pub read_report : Bool → List Call → Result Job Refusal → Report
-read_report known calls (Err e) = refusing (number_of e.reason) e.place
+read_report known calls (Err why) = refusing why
 read_report known calls (Ok j) = drawing_report known calls (job_drawing j)
 
 -- a job file of at most 32,768 bytes
 unfoldable pub job_report : Bool → List Call → List ℕ → Report
-job_report known calls bytes = cond (leb (length bytes) 32768) (read_report known calls (file_read bytes)) (refusing 1 8192)
+job_report known calls bytes = cond (leb (length bytes) 32768) (read_report known calls (file_read bytes)) (refusing (refusal_at Unended 8192))
 
 -- ---- on an input: the calls, then the job
-unfoldable pub calls_report : declared.Calls → List ℕ → Report
-calls_report (calls.Refused n place) bytes = refusing n place
-calls_report (calls.Read m) bytes = job_report (calls_known (codes_in bytes)) (calls_of (codes_in bytes) (values_in bytes)) (drop (4 + m * 36) bytes)
+unfoldable pub calls_report : Result ℕ Refusal → List ℕ → Report
+calls_report (Err why) bytes = refusing why
+calls_report (Ok m) bytes = job_report (calls_known (codes_in bytes)) (calls_of (codes_in bytes) (values_in bytes)) (drop (4 + m * 36) bytes)
 
 unfoldable pub reported : List ℕ → Report
 reported bytes = calls_report (calls_answer bytes) bytes

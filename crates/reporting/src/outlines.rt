@@ -4,8 +4,7 @@ ghost use Rattle.decimal.specs.Put.{Put};
 ghost use Rattle.printing.specs.Printed.{fitted};
 ghost use Rattle.reporting.specs.Gathered.{held_text, Gathers};
 
-use call::Outline;
-use printing::{put_path, put_refused};
+use printing::{put_path, put_refusal};
 
 // Puts the path data of the outline that a cache holds, or the refusal of a text that is too long.
 pub fn put_outline(shapes: &[u32], numbers: &[f64], flags: &[u32], out: &mut [u8]) -> usize
@@ -14,9 +13,8 @@ pub fn put_outline(shapes: &[u32], numbers: &[f64], flags: &[u32], out: &mut [u8
 {
     let mut words = [0u32; 32];
     let mut outline = [0.0f64; 6144];
-    let made = cache::assemble(shapes, numbers, flags, &mut words, &mut outline);
-    match made {
-        Outline::Refused(number, place) => put_refused(out, number, place),
-        Outline::Accepted(m, anchors) => put_path(&words[..m], &outline, out),
+    match cache::assemble(shapes, numbers, flags, &mut words, &mut outline) {
+        Err(why) => put_refusal(out, why),
+        Ok(made) => put_path(&words[..made.subpaths], &outline, out),
     }
 }

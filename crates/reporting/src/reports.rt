@@ -2,15 +2,16 @@
 ghost use Rattle.std.specs.Prelude.{◌≡◌, ◌*◌, ◌/◌, ◌%◌, ◌≤◌, length};
 ghost use Rattle.decimal.specs.Put.{Put};
 ghost use Rattle.cache.proofs.Accepted.{Drawn};
+ghost use Rattle.refusal.specs.Reasons.{number_of};
 ghost use Rattle.replay.specs.Encoding.{calls_of, calls_known};
 ghost use Rattle.printing.specs.Refused.{refused_text};
 ghost use Rattle.reporting.specs.Report.{drawing, drawing_report, job_report, reported};
 
 use crate::outlines::put_outline;
 use call_lines::put_calls;
-use call_list::{Calls, read_calls};
-use printing::put_refused;
-use replay::Replayed;
+use call_list::read_calls;
+use printing::put_refusal;
+use refusal::{Reason, Refusal};
 
 // How many bytes the calls' lines take, and the last line less its newline.
 #[derive(Clone, Copy)]
@@ -20,15 +21,14 @@ pub struct Reported {
 }
 
 // A refusal alone.
-fn refuse(out: &mut [u8], number: u32, place: usize) -> Reported
+fn refuse(out: &mut [u8], why: Refusal) -> Reported
     ensures lines { result.lines ≡ 0 }
-    ensures text { Put out.old 0 (refused_text number place) out.new result.text }
+    ensures text { Put out.old 0 (refused_text (number_of why.reason) why.place) out.new result.text }
     ensures room { result.text ≤ 65536 }
 {
-    let text = put_refused(out, number, place);
     Reported {
         lines: 0,
-        text: text,
+        text: put_refusal(out, why),
     }
 }
 
@@ -53,7 +53,7 @@ fn report_drawing(
     let mut numbers = [0.0f64; 6144];
     let mut flags = [0u32; 512];
     let mut answers = [0u32; 1280];
-    let done = replay::replay(
+    match replay::replay(
         shapes,
         anchors,
         radii,
@@ -63,17 +63,12 @@ fn report_drawing(
         codes,
         values,
         &mut answers,
-    );
-    match done {
-        Replayed::Refused(number, place) => refuse(out, number, place),
-        Replayed::Done(m) => {
-            let to = put_calls(lines, codes, &answers, m);
-            let text = put_outline(shapes, &numbers, &flags, out);
-            Reported {
-                lines: to,
-                text: text,
-            }
-        }
+    ) {
+        Err(why) => refuse(out, why),
+        Ok(m) => Reported {
+            lines: put_calls(lines, codes, &answers, m),
+            text: put_outline(shapes, &numbers, &flags, out),
+        },
     }
 }
 
@@ -92,13 +87,13 @@ fn report_job(
     ensures room { (result.lines ≤ 10752) × (result.text ≤ 65536) }
 {
     if bytes.len() > 32768 {
-        return refuse(out, 1, 8192);
+        return refuse(out, Reason::Unended.at(8192));
     }
     let mut shapes = [0u32; 32];
     let mut anchors = [0.0f64; 3072];
     let mut radii = [0.0f64; 512];
     match job_calls::read(bytes, &mut shapes, &mut anchors, &mut radii) {
-        Err(refusal) => refuse(out, u32::from(refusal.reason), refusal.place),
+        Err(why) => refuse(out, why),
         Ok(read) => report_drawing(
             &mut shapes[..read.subpaths],
             &mut anchors,
@@ -120,10 +115,9 @@ pub fn report(bytes: &[u8], lines: &mut [u8; 16384], out: &mut [u8; 65536]) -> R
 {
     let mut codes = [0u32; 768];
     let mut values = [0.0f64; 1536];
-    let calls = read_calls(bytes, &mut codes, &mut values);
-    match calls {
-        Calls::Refused(number, place) => refuse(out, number, place),
-        Calls::Read(m) => {
+    match read_calls(bytes, &mut codes, &mut values) {
+        Err(why) => refuse(out, why),
+        Ok(m) => {
             let job = 4 + m * 36;
             report_job(&bytes[job..], &codes[..m * 3], &values[..m * 6], lines, out)
         }

@@ -2,19 +2,15 @@
 #![tactic(auto)]
 
 use call::Outline;
-use cubic_calls::{Filled, Number, Point};
 use geom::P;
 use path::{Anchor, AnchorRef};
+use refusal::Refusal;
 use session::Edited;
 use std::io;
-use svg_calls::Answer;
 
 // The bits of x: all zero for a NaN, which no piece has.
 fn bits(x: f64) -> u64 {
-    if x != x {
-        return 0;
-    }
-    f64::to_bits(x)
+    if x.is_nan() { 0 } else { x.to_bits() }
 }
 
 // A label.
@@ -24,20 +20,19 @@ fn say(rt: &impl Print, label: &[u8]) -> io::Result<()> {
 
 // A number's bits, after a blank.
 fn number(rt: &impl Print, x: f64) -> io::Result<()> {
-    let b = bits(x);
-    print!(rt; " {b:016x}")
+    print!(rt; " {:016x}", bits(x))
 }
 
-fn refused(rt: &impl Print, n: u32, place: usize) -> io::Result<()> {
-    print!(rt; " refused {n} {place}")
+// A refusal's number and place.
+fn refused(rt: &impl Print, why: Refusal) -> io::Result<()> {
+    print!(rt; " refused {} {}", u32::from(why.reason), why.place)
 }
 
 fn len_of(rt: &impl Print, label: &[u8], x: f64, y: f64) -> io::Result<()> {
     say(rt, label)?;
-    let a = cubic_calls::len(P::new(x, y));
-    match a {
-        Number::Refused(n, place) => refused(rt, n, place)?,
-        Number::Accepted(l) => number(rt, l)?,
+    match cubic_calls::len(P::new(x, y)) {
+        Ok(l) => number(rt, l)?,
+        Err(why) => refused(rt, why)?,
     }
     say(rt, b"\n")
 }
@@ -53,13 +48,12 @@ fn arch() -> [P; 4] {
 
 fn middle(rt: &impl Print) -> io::Result<()> {
     say(rt, b"arch at 0.5")?;
-    let a = cubic_calls::cubic_at(arch(), 0.5);
-    match a {
-        Point::Refused(n, place) => refused(rt, n, place)?,
-        Point::Accepted(p) => {
+    match cubic_calls::cubic_at(arch(), 0.5) {
+        Ok(p) => {
             number(rt, p.x)?;
             number(rt, p.y)?;
         }
+        Err(why) => refused(rt, why)?,
     }
     say(rt, b"\n")
 }
@@ -67,28 +61,27 @@ fn middle(rt: &impl Print) -> io::Result<()> {
 fn halves(rt: &impl Print) -> io::Result<()> {
     let mut before = [0.0f64; 8];
     let mut after = [0.0f64; 8];
-    let a = cubic_calls::split_cubic(arch(), 0.5, &mut before, &mut after);
-    if let Filled::Refused(n, place) = a {
-        refused(rt, n, place)?;
+    if let Err(why) = cubic_calls::split_cubic(arch(), 0.5, &mut before, &mut after) {
+        refused(rt, why)?;
     }
     say(rt, b"its left half")?;
-    for k in 0..8 {
-        number(rt, before[k])?;
+    for x in before {
+        number(rt, x)?;
     }
     say(rt, b"\n")
 }
 
 // A text of at most 128 bytes, after a blank.
-fn text(rt: &impl Print, a: Answer, bytes: &[u8]) -> io::Result<()> {
-    match a {
-        Answer::Refused(n, place) => refused(rt, n, place),
-        Answer::Accepted(n) => {
+fn text(rt: &impl Print, written: Result<usize, Refusal>, bytes: &[u8]) -> io::Result<()> {
+    match written {
+        Ok(n) => {
             say(rt, b" ")?;
             if n <= bytes.len() {
                 say(rt, &bytes[..n])?;
             }
             Ok(())
         }
+        Err(why) => refused(rt, why),
     }
 }
 
@@ -118,10 +111,10 @@ fn square(rt: &impl Print, label: &[u8], radii: &[f64], kind: u32) -> io::Result
     say(rt, b"\n")
 }
 
-fn outline(rt: &impl Print, a: Outline) -> io::Result<()> {
-    match a {
-        Outline::Refused(n, place) => refused(rt, n, place),
-        Outline::Accepted(subpaths, count) => print!(rt; " {subpaths} {count}"),
+fn outline(rt: &impl Print, made: Result<Outline, Refusal>) -> io::Result<()> {
+    match made {
+        Ok(o) => print!(rt; " {} {}", o.subpaths, o.anchors),
+        Err(why) => refused(rt, why),
     }
 }
 
@@ -138,11 +131,11 @@ fn many(rt: &impl Print, label: &[u8], word: u32) -> io::Result<()> {
     say(rt, b"\n")
 }
 
-fn edited(rt: &impl Print, label: &[u8], a: Edited) -> io::Result<()> {
+fn edited(rt: &impl Print, label: &[u8], done: Result<Edited, Refusal>) -> io::Result<()> {
     say(rt, label)?;
-    match a {
-        Edited::Refused(n, place) => refused(rt, n, place)?,
-        Edited::Accepted(recut, count) => print!(rt; " {recut}")?,
+    match done {
+        Ok(e) => print!(rt; " {}", e.recut)?,
+        Err(why) => refused(rt, why)?,
     }
     say(rt, b"\n")
 }

@@ -4,11 +4,15 @@ use mathlib.Core.List.{List, [], ◌∷◌, ◌++◌}
 use Prim.Native.Nat.{ℕ}
 use lib.ListN.{replicate}
 use lib.Ieee.{Float, nan, lt, le, eq, add, sub, mul, div, of_int, of_bits, binary64}
+use Rattle.std.proofs.Common.{Ok, Err, Result}
 use Rattle.views.specs.View.{overwrite}
 use Rattle.views.specs.Search.{all, first_false, count}
 use Rattle.real.specs.Operators.{float}
 use Rattle.real.specs.Limit.{in_limit}
-use Rattle.refusal.specs.Order.{holds, judge, first_failing, verdict, tests}
+use Rattle.refusal.specs.Reasons.{refusal_at}
+use Rattle.refusal.specs.declared.Refusal.{Refusal}
+use Rattle.refusal.specs.declared.Reason.TheVariants.{Arguments, Reference, Lists, Output, Made}
+use Rattle.refusal.specs.Order.{holds, judge, first_failing, verdict, tests, answering}
 use Rattle.root.specs.Root.{root_of}
 use Rattle.real.specs.StandIns.{abs, min, max}
 use Rattle.geom.specs.Point.{point, plus, minus, times, dot, cross, len, lerp}
@@ -27,7 +31,7 @@ use Rattle.cut.specs.Places.{corner_at, own_at, asked_at, fitted_at, is_cut, tri
 use Rattle.cut.specs.Recut.{reached}
 use Rattle.corner.specs.Kinds.{kind_of, is_known}
 use Rattle.cut_calls.specs.PlainCut.{sub_at}
-use Rattle.session.specs.declared.answers.Edited.TheVariants.{Refused, Accepted}
+use Rattle.session.specs.declared.answers.Edited.{Edited}
 use Rattle.session.specs.Drawing.{Lent, drawn, corner_kind, view_in}
 use Rattle.cache.specs.Cache.{place_of_path, cached_numbers, cached_flags, cached_in}
 use Rattle.cache.specs.Tests.{cache_fits}
@@ -69,6 +73,9 @@ lists radii flags = record {
 abbrev two : Lent
 two = lists (float 5 ∷ float 6 ∷ nan ∷ []) (7 ∷ 8 ∷ 9 ∷ [])
 
+abbrev did : ℕ → ℕ → Result Edited Refusal
+did recut n = Ok (record { recut = recut; anchors = n })
+
 -- Both places lie within three steps, and within two. 7: a flag too few, whatever the call. 5: a radius at its place, the call's own number and the kind at the
 -- anchor count. 6: no such anchor, no such segment. 9: the new anchor, at its place after the split
 answers :
@@ -82,13 +89,13 @@ answers :
     ∷ call_answer two 0 (split 0 1 half)
     ∷ call_answer two 0 (split 0 0 (float 131072))
     ∷ []
-    ≡ Accepted 2 2 ∷ Accepted 2 2 ∷ Refused 7 0 ∷ Refused 5 1 ∷ Refused 5 2 ∷ Refused 5 2 ∷ Refused 6 0 ∷ Refused 6 0 ∷ Refused 9 1 ∷ []
-unfolding call_answer call_verdict edit_verdict edit_answer edit_of moved resized split_at anchor_good has_anchor has_segment is_segment lists_fit cache_fits room_in written_good recut_good edit_limit drawn drawing_fits drawing_limit path_fits places place_in anchor_in verdict first_failing tests holds judge kind_of is_known corner_kind all first_false count in_limit numbers split_shapes segment_start segment_end shifted split_anchors split_radii halves old next prev reached near gap view_in view_of sub_at sub_of places_of place_of_path place_at place_of place_numbers cached_in is_cut cut_at fitted_at corner_at arrives leaves in_at out_at trimmed_at split_cubic lerp plus minus times of_bits of_int add mul sub lt le eq
+    ≡ did 2 2 ∷ did 2 2 ∷ Err (refusal_at Lists 0) ∷ Err (refusal_at Arguments 1) ∷ Err (refusal_at Arguments 2) ∷ Err (refusal_at Arguments 2) ∷ Err (refusal_at Reference 0) ∷ Err (refusal_at Reference 0) ∷ Err (refusal_at Made 1) ∷ []
+unfolding call_answer call_verdict edit_verdict edit_answer edit_of moved resized split_at anchor_good has_anchor has_segment is_segment lists_fit cache_fits room_in written_good recut_good edit_limit drawn drawing_fits drawing_limit path_fits places place_in anchor_in verdict first_failing tests answering holds judge kind_of is_known corner_kind all first_false count in_limit numbers split_shapes segment_start segment_end shifted split_anchors split_radii halves old next prev reached near gap view_in view_of sub_at sub_of places_of place_of_path place_at place_of place_numbers cached_in is_cut cut_at fitted_at corner_at arrives leaves in_at out_at trimmed_at split_cubic lerp plus minus times of_bits of_int add mul sub lt le eq
 answers = refl
 
 -- the split itself: three places; 8 where a list has no room for them
-splits : call_answer two 0 (split 0 0 half) ∷ call_answer (lists (float 5 ∷ float 6 ∷ []) (7 ∷ 8 ∷ [])) 0 (split 0 0 half) ∷ [] ≡ Accepted 3 3 ∷ Refused 8 0 ∷ []
-unfolding call_answer call_verdict edit_verdict edit_answer edit_of moved resized split_at anchor_good has_anchor has_segment is_segment lists_fit cache_fits room_in written_good recut_good edit_limit drawn drawing_fits drawing_limit path_fits places place_in anchor_in verdict first_failing tests holds judge kind_of is_known corner_kind all first_false count in_limit numbers split_shapes segment_start segment_end shifted split_anchors split_radii halves old next prev reached near gap view_in view_of sub_at sub_of places_of place_of_path place_at place_of place_numbers cached_in is_cut cut_at fitted_at corner_at arrives leaves in_at out_at trimmed_at split_cubic lerp plus minus times of_bits of_int add mul sub lt le eq corner_of is_smooth len root_of abs div cross dot min max asked_at own_at max_radius_beside
+splits : call_answer two 0 (split 0 0 half) ∷ call_answer (lists (float 5 ∷ float 6 ∷ []) (7 ∷ 8 ∷ [])) 0 (split 0 0 half) ∷ [] ≡ did 3 3 ∷ Err (refusal_at Output 0) ∷ []
+unfolding call_answer call_verdict edit_verdict edit_answer edit_of moved resized split_at anchor_good has_anchor has_segment is_segment lists_fit cache_fits room_in written_good recut_good edit_limit drawn drawing_fits drawing_limit path_fits places place_in anchor_in verdict first_failing tests answering holds judge kind_of is_known corner_kind all first_false count in_limit numbers split_shapes segment_start segment_end shifted split_anchors split_radii halves old next prev reached near gap view_in view_of sub_at sub_of places_of place_of_path place_at place_of place_numbers cached_in is_cut cut_at fitted_at corner_at arrives leaves in_at out_at trimmed_at split_cubic lerp plus minus times of_bits of_int add mul sub lt le eq corner_of is_smooth len root_of abs div cross dot min max asked_at own_at max_radius_beside
 splits = refl
 
 -- its lists: left, new, right, and radius 0 at the new anchor
@@ -110,12 +117,12 @@ abbrev four : Lent
 four = record { shapes = 2 ∷ 2 ∷ []; anchors = replicate 24 (float 1); radii = replicate 4 (float 0); numbers = replicate 48 nan; flags = 2147483649 ∷ 3 ∷ 4 ∷ 5 ∷ 6 ∷ [] }
 
 flags_four : (call_lists four 1 (move 1 0 left)).flags ≡ 2147483649 ∷ 3 ∷ 0 ∷ 0 ∷ 6 ∷ []
-unfolding call_lists lists_after edited_lists overwrite flags_after cached_flags call_answer call_verdict edit_verdict edit_answer edit_of moved resized split_at anchor_good has_anchor has_segment is_segment lists_fit cache_fits room_in written_good recut_good edit_limit drawn drawing_fits drawing_limit path_fits places place_in anchor_in verdict first_failing tests holds judge kind_of is_known corner_kind all first_false count in_limit numbers split_shapes segment_start segment_end shifted split_anchors split_radii halves old next prev reached near gap view_in view_of sub_at sub_of places_of place_of_path place_at place_of place_numbers cached_in is_cut cut_at fitted_at corner_at arrives leaves in_at out_at trimmed_at split_cubic lerp plus minus times of_bits of_int add mul sub lt le eq
+unfolding call_lists lists_after edited_lists overwrite flags_after cached_flags call_answer call_verdict edit_verdict edit_answer edit_of moved resized split_at anchor_good has_anchor has_segment is_segment lists_fit cache_fits room_in written_good recut_good edit_limit drawn drawing_fits drawing_limit path_fits places place_in anchor_in verdict first_failing tests answering holds judge kind_of is_known corner_kind all first_false count in_limit numbers split_shapes segment_start segment_end shifted split_anchors split_radii halves old next prev reached near gap view_in view_of sub_at sub_of places_of place_of_path place_at place_of place_numbers cached_in is_cut cut_at fitted_at corner_at arrives leaves in_at out_at trimmed_at split_cubic lerp plus minus times of_bits of_int add mul sub lt le eq
 flags_four = refl
 
 -- ---- two edits of one anchor, of different sorts: both orders are accepted
 both_orders : BothOrders two 0 (move 0 1 left) (set_radius 0 1 half)
-unfolding call_lists lists_after edited_lists overwrite anchor_numbers numbers_after cached_numbers flags_after cached_flags call_answer call_verdict edit_verdict edit_answer edit_of moved resized split_at anchor_good has_anchor has_segment is_segment lists_fit cache_fits room_in written_good recut_good edit_limit drawn drawing_fits drawing_limit path_fits places place_in anchor_in verdict first_failing tests holds judge kind_of is_known corner_kind all first_false count in_limit numbers split_shapes segment_start segment_end shifted split_anchors split_radii halves old next prev reached near gap view_in view_of sub_at sub_of places_of place_of_path place_at place_of place_numbers cached_in is_cut cut_at fitted_at corner_at arrives leaves in_at out_at trimmed_at split_cubic lerp plus minus times of_bits of_int add mul sub lt le eq
+unfolding call_lists lists_after edited_lists overwrite anchor_numbers numbers_after cached_numbers flags_after cached_flags call_answer call_verdict edit_verdict edit_answer edit_of moved resized split_at anchor_good has_anchor has_segment is_segment lists_fit cache_fits room_in written_good recut_good edit_limit drawn drawing_fits drawing_limit path_fits places place_in anchor_in verdict first_failing tests answering holds judge kind_of is_known corner_kind all first_false count in_limit numbers split_shapes segment_start segment_end shifted split_anchors split_radii halves old next prev reached near gap view_in view_of sub_at sub_of places_of place_of_path place_at place_of place_numbers cached_in is_cut cut_at fitted_at corner_at arrives leaves in_at out_at trimmed_at split_cubic lerp plus minus times of_bits of_int add mul sub lt le eq
 both_orders = record { first_c = refl; then_d = refl; first_d = refl; then_c = refl }
 
 commuting : Commute two 0 (move 0 1 left) (set_radius 0 1 half)

@@ -3,6 +3,8 @@ use mathlib.Core.Path.{◌≡◌, refl, sym, ◌∙◌}
 use mathlib.Core.Bool.{Bool}
 use Prim.Native.Nat.{ℕ, ◌<◌}
 use Rattle.views.proofs.Searches.{first_cong}
+use Rattle.refusal.specs.declared.Reason.TheVariants.{Arguments, Reference, Lists, Output, Made, Capacity}
+use Rattle.refusal.specs.declared.Reason.{Reason}
 use Rattle.refusal.specs.Order.{Test, passes, fails, judge, first_failing, Verdict, verdict, tests}
 use Rattle.refusal.proofs.Verdicts.{failing}
 use Rattle.path.proofs.Limits.{GoodBelow, search_to}
@@ -23,7 +25,7 @@ unfolding places
 places_same p q n a b h e = rw (first_cong p q n h, e)
 
 -- ---- six tests
-judge-same : (t u : Test) (c : ℕ) (v w : Verdict) → t ≡ u → (t ≡ passes → v ≡ w) → judge t c v ≡ judge u c w
+judge-same : (t u : Test) (c : Reason) (v w : Verdict) → t ≡ u → (t ≡ passes → v ≡ w) → judge t c v ≡ judge u c w
 unfolding judge
 judge-same passes u c v w e h = rw (← e) (h refl)
 judge-same (fails k) u c v w e h = rw (← e)
@@ -33,9 +35,9 @@ pub verdict-same : (l a r c m o l' a' r' c' m' o' : Test) → l ≡ l' → (l �
     → (l ≡ passes → a ≡ passes → r ≡ passes → m ≡ m') → o ≡ o' → verdict (tests l a r c m o) ≡ verdict (tests l' a' r' c' m' o')
 unfolding verdict first_failing tests
 verdict-same l a r c m o l' a' r' c' m' o' el ea er ec em eo =
-    judge-same l l' 7 _ _ el
-    (λ p. judge-same a a' 5 _ _ (ea p)
-    (λ q. judge-same r r' 6 _ _ er
-    (λ s. judge-same c c' 10 _ _ ec
-    (λ t. judge-same m m' 9 _ _ (em p q s)
-    (λ u. judge-same o o' 8 _ _ eo (λ v. refl))))))
+    judge-same l l' Lists _ _ el
+    (λ p. judge-same a a' Arguments _ _ (ea p)
+    (λ q. judge-same r r' Reference _ _ er
+    (λ s. judge-same c c' Capacity _ _ ec
+    (λ t. judge-same m m' Made _ _ (em p q s)
+    (λ u. judge-same o o' Output _ _ eo (λ v. refl))))))

@@ -25,7 +25,7 @@ written-whole n f xs = back_whole (overwrite n f xs) xs (length-overwrite n f xs
 -- a call changes no list's length, so what it left is what the buffers hold
 whole : (v : Verdict) (l : Lent) (e : Edit) → returned (lists_after v (edited_lists l e) l) l ≡ lists_after v (edited_lists l e) l
 unfolding returned lists_after edited_lists
-whole (refused c k) l e = λ t. record {
+whole (refused why) l e = λ t. record {
   shapes = l.shapes;
   anchors = back_whole l.anchors l.anchors refl t;
   radii = back_whole l.radii l.radii refl t;

@@ -1,17 +1,17 @@
 -- What a call leaves alone, on any cache: all after a refusal, all that it does not recut after an acceptance. Assumes nothing.
-use mathlib.Core.Path.{◌≡◌, refl, sym, ap, ◌∙◌}
+use mathlib.Core.Path.{◌≡◌, sym, ap, ◌∙◌}
 use mathlib.Core.List.{List, [], ◌∷◌}
 use Prim.Native.Nat.{ℕ, ◌+◌, ◌*◌}
 use native.Mathlib.Omega.{arith}
 use lib.ListN.{get_or}
 use lib.Ieee.{nan}
 use Rattle.views.specs.View.{entry}
-use Rattle.views.specs.Search.{count}
 use Rattle.views.proofs.Laws.{at_overwrite, past_overwrite}
 use Rattle.refusal.specs.Order.{Verdict, accepted, refused}
 use Rattle.refusal.proofs.Verdicts.{holds_says, accepted_says}
 use Rattle.path.specs.Shape.{total}
-use Rattle.session.specs.declared.answers.Edited.TheVariants.{Refused, Accepted}
+use Rattle.refusal.specs.declared.Refusal.{Refusal}
+use Rattle.refusal.proofs.Verdicts.{ok_says, err_says}
 use Rattle.session.specs.Drawing.{Lent, drawn}
 use Rattle.session.specs.Edits.{Call, Edit, edit_of}
 use Rattle.session.specs.Calls.{room_in, edit_answer, numbers_after, flags_after, edited_lists, lists_after, edit_verdict, call_verdict, call_answer, call_lists}
@@ -50,24 +50,16 @@ module _ (l : Lent) (kind : ℕ) (c : Call) (yes : call_verdict l kind c ≡ acc
     flags_past = λ k h. ap (λ (x : Lent). get_or x.flags k 0) lists ∙ past_overwrite 0 n (flags_after e l.flags) l.flags k h;
   }
 
-apart : (c k r n : ℕ) → Refused c k ≡ Accepted r n → ⊥
-apart c k r n e = let z : ◌≡◌ {A = ℕ} 0 1 = cc in omega arith
-
 -- ON ANY CACHE, also one that others wrote to
 pub spares : (l : Lent) (kind : ℕ) (c : Call) → Spares l kind c
-unfolding call_answer call_lists lists_after edit_answer
-spares l kind c = record { refusal = λ n place h. whole n place (call_verdict l kind c) h; acceptance = λ recut n h. untouched l kind c (yes recut n (call_verdict l kind c) h) }
+unfolding call_answer call_lists edit_answer lists_after
+spares l kind c = record {
+  refusal = λ why h. left why (call_verdict l kind c) (err_says _ _ why h);
+  acceptance = λ x h. untouched l kind c (ok_says _ _ x h).0;
+}
   where
-    e : Edit
-    e = edit_of (drawn l kind) c
-
-    whole : (n place : ℕ) (v : Verdict) → edit_answer v (count e.recuts (total e.made.shapes)) (total e.made.shapes) ≡ Refused n place → lists_after v (edited_lists l e) l ≡ l
-    whole n place accepted h = absurd (apart n place _ _ (sym h))
-    whole n place (refused x y) h = refl
-
-    yes : (recut n : ℕ) (v : Verdict) → edit_answer v (count e.recuts (total e.made.shapes)) (total e.made.shapes) ≡ Accepted recut n → v ≡ accepted
-    yes recut n accepted h = refl
-    yes recut n (refused x y) h = absurd (apart x y recut n h)
+    left : (why : Refusal) (v : Verdict) → v ≡ refused why → lists_after v (edited_lists l (edit_of (drawn l kind) c)) l ≡ l
+    left why v e = rw e
 
 pub spares-all : (kind : ℕ) (ts : List Turn) → SparesAll kind ts
 spares-all kind [] = tt

@@ -11,7 +11,7 @@ use borrow.Author.Tests.{leb-true}
 use Rattle.views.specs.View.{entry}
 use Rattle.views.proofs.Bools.{and_right}
 use Rattle.views.specs.Search.{count}
-use Rattle.refusal.specs.Order.{Verdict, accepted, refused}
+use Rattle.refusal.specs.Order.{Verdict, accepted, refused, answering}
 use Rattle.refusal.proofs.Verdicts.{holds_says, accepted_says}
 use Rattle.path.specs.Shape.{total}
 use Rattle.path.specs.Flat.{anchor_at}
@@ -131,12 +131,12 @@ module _ (b : Lent) (m : Drawing) (an ra nu : List Float) (fl : List ℕ) (c : C
         }
 
     step_here : Stepped m.kind b l m c
-    unfolding call_answer call_lists model_answer model_next drawn lists_after drawing_after edit_answer
+    unfolding call_answer call_lists model_answer model_next drawn lists_after drawing_after edit_answer answering
     step_here = go (model_verdict m (lengths_of l) c) refl
       where
         go : (v : Verdict) → model_verdict m (lengths_of l) c ≡ v → Stepped m.kind b l m c
-        go (refused x y) h =
-            let w : call_verdict l m.kind c ≡ refused x y = judged ∙ h in
+        go (refused why) h =
+            let w : call_verdict l m.kind c ≡ refused why = judged ∙ h in
             record {
               answer = rw (w, h);
               held = rw (w, h) (still b l m held carried);

@@ -1,14 +1,15 @@
 -- What the cached edits answer and what they leave in the lent lists, on any cache; and the fresh cache they start from. Assumes nothing.
+use Rattle.std.proofs.Common.{Result}
 use Rattle.std.specs.Prelude.{ℕ, ◌+◌, ◌*◌, ◌/◌, ◌%◌, Bool, not, ◌&&◌, ◌||◌, cond, List, leb, length, get_or, Float}
 use Rattle.views.specs.View.{entry, overwrite}
 use Rattle.views.specs.Search.{count}
-use Rattle.refusal.specs.Order.{Test, passes, holds, Verdict, accepted, refused, verdict, tests}
+use Rattle.refusal.specs.declared.Refusal.{Refusal}
+use Rattle.refusal.specs.Order.{Test, passes, holds, Verdict, accepted, refused, verdict, tests, answering}
 use Rattle.path.specs.Shape.{total}
 use Rattle.path.specs.Flat.{anchor_numbers}
 use Rattle.call.specs.Tests.{places, drawing_fits, drawing_limit}
 use Rattle.corner.specs.Kinds.{kind_of, is_known}
 use Rattle.session.specs.declared.answers.Edited.{Edited}
-use Rattle.session.specs.declared.answers.Edited.TheVariants.{Refused, Accepted}
 use Rattle.session.specs.Drawing.{Lent, drawn}
 use Rattle.cache.specs.Cache.{cached_numbers, cached_flags, cached_in}
 use Rattle.cache.specs.Tests.{cache_fits}
@@ -49,9 +50,8 @@ edit_verdict l kind e =
     (holds (room_in l n) 0))
 
 -- how many places were recut, and how many anchors there are
-unfoldable pub edit_answer : Verdict → ℕ → ℕ → Edited
-edit_answer accepted recut n = Accepted recut n
-edit_answer (refused c place) recut n = Refused c place
+unfoldable pub edit_answer : Verdict → ℕ → ℕ → Result Edited Refusal
+edit_answer v recut n = answering v (record { recut = recut; anchors = n })
 
 -- number j of the cache: of a place recut, or what stood there; and the flag of place k
 unfoldable pub numbers_after : Edit → List Float → ℕ → Float
@@ -74,13 +74,13 @@ edited_lists l e =
 -- the lists at exit: a refusal leaves every bit
 unfoldable pub lists_after : Verdict → Lent → Lent → Lent
 lists_after accepted now before = now
-lists_after (refused c place) now before = before
+lists_after (refused why) now before = before
 
 -- ---- WHAT THE CONTRACTS OF THE CACHED EDITS CITE
 unfoldable pub call_verdict : Lent → ℕ → Call → Verdict
 call_verdict l kind c = edit_verdict l kind (edit_of (drawn l kind) c)
 
-unfoldable pub call_answer : Lent → ℕ → Call → Edited
+unfoldable pub call_answer : Lent → ℕ → Call → Result Edited Refusal
 call_answer l kind c =
     let e = edit_of (drawn l kind) c in
     let n = total e.made.shapes in

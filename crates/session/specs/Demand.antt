@@ -1,7 +1,9 @@
 -- DEMAND 3: what holds after every list of calls on the fresh cache of an accepted drawing. Assumes nothing.
+use Rattle.std.proofs.Common.{Ok, Err}
 use Rattle.std.specs.Prelude.{ℕ, ◌+◌, ◌*◌, ◌≤◌, ◌<◌, ◌≡◌, false, true, List, [], ◌∷◌, ◌++◌, length, get_or, take, drop, Float}
 use Rattle.views.specs.View.{entry}
 use Rattle.views.specs.Search.{count}
+use Rattle.refusal.specs.declared.Refusal.{Refusal}
 use Rattle.refusal.specs.Order.{accepted}
 use Rattle.path.specs.Shape.{total}
 use Rattle.path.specs.Flat.{anchor_at, nth}
@@ -9,7 +11,7 @@ use Rattle.call.specs.Tests.{room_for}
 use Rattle.svg_calls.specs.Call.{to_svg_d_verdict, to_svg_d_left}
 use Rattle.cut.specs.Places.{place_numbers}
 use Rattle.cut.specs.Rows.{flag_of}
-use Rattle.session.specs.declared.answers.Edited.TheVariants.{Refused, Accepted}
+use Rattle.session.specs.declared.answers.Edited.{Edited}
 use Rattle.session.specs.Drawing.{Drawing, Lent, drawn}
 use Rattle.cache.specs.Calls.{assemble_verdict, assemble_shapes, assemble_anchors}
 use Rattle.session.specs.Edits.{Call, Edit, edit_of, places_of}
@@ -60,8 +62,8 @@ pub record Untouched (e : Edit) (before now : Lent) : Type 0 where
 
 -- a call on any lists: a refusal leaves every bit
 pub record Spares (l : Lent) (kind : ℕ) (c : Call) : Type 0 where
-  pub refusal : (n place : ℕ) → call_answer l kind c ≡ Refused n place → call_lists l kind c ≡ l
-  pub acceptance : (recut n : ℕ) → call_answer l kind c ≡ Accepted recut n → Untouched (edit_of (drawn l kind) c) l (call_lists l kind c)
+  pub refusal : (why : Refusal) → call_answer l kind c ≡ Err why → call_lists l kind c ≡ l
+  pub acceptance : (x : Edited) → call_answer l kind c ≡ Ok x → Untouched (edit_of (drawn l kind) c) l (call_lists l kind c)
 
 abbrev pub SparesAll : ℕ → List Turn → Type 0
 SparesAll kind [] = Unit

@@ -1,5 +1,7 @@
 -- The model drawing: what follows from the calls' arguments and the lists' lengths alone (document 01, 'Kept outline'). Assumes nothing.
+use Rattle.std.proofs.Common.{Result}
 use Rattle.std.specs.Prelude.{ℕ, ◌+◌, ◌*◌, Bool, ◌&&◌, List, [], ◌∷◌, leb, length}
+use Rattle.refusal.specs.declared.Refusal.{Refusal}
 use Rattle.refusal.specs.Order.{Test, passes, holds, Verdict, accepted, refused, verdict, tests}
 use Rattle.real.specs.Limit.{in_limit}
 use Rattle.path.specs.Shape.{count_of, closed_of, total, word_at}
@@ -59,13 +61,13 @@ recut_count m (move s i new) = let w = word_at m.shapes s in near_count 3 (count
 recut_count m (set_radius s i r) = let w = word_at m.shapes s in near_count 2 (count_of w) (closed_of w) i
 recut_count m (split s a t) = let w = word_at m.shapes s in near_count 4 (count_of w + 1) (closed_of w) (a + 1)
 
-unfoldable pub model_answer : Drawing → Lengths → Call → Edited
+unfoldable pub model_answer : Drawing → Lengths → Call → Result Edited Refusal
 model_answer m l c = edit_answer (model_verdict m l c) (recut_count m c) (total (edit_of m c).made.shapes)
 
 -- the drawing stays where the call is refused
 unfoldable pub drawing_after : Verdict → Drawing → Drawing → Drawing
 drawing_after accepted made m = made
-drawing_after (refused c place) made m = m
+drawing_after (refused why) made m = m
 
 unfoldable pub model_next : Drawing → Lengths → Call → Drawing
 model_next m l c = drawing_after (model_verdict m l c) (edit_of m c).made m
@@ -75,7 +77,7 @@ pub record Fed : Type 0 where
   pub call : Call
   pub lengths : Lengths
 
-unfoldable pub model_answers : Drawing → List Fed → List Edited
+unfoldable pub model_answers : Drawing → List Fed → List (Result Edited Refusal)
 model_answers m [] = []
 model_answers m (f ∷ fs) = model_answer m f.lengths f.call ∷ model_answers (model_next m f.lengths f.call) fs
 

@@ -1,4 +1,5 @@
 -- A list of calls on the cache of a drawing: each gets the lists as the last one left them, and may be lent more or less of them. Assumes nothing.
+use Rattle.std.proofs.Common.{Result}
 use Rattle.std.specs.Prelude.{ℕ, ◌*◌, ◌<◌, ◌≡◌, List, [], ◌∷◌, ◌++◌, length, get_or, drop}
 use Rattle.views.specs.View.{entry}
 use Rattle.path.specs.Shape.{total}
@@ -7,6 +8,7 @@ use Rattle.session.specs.Drawing.{Lent}
 use Rattle.session.specs.Edits.{Call}
 use Rattle.session.specs.Calls.{call_answer, call_lists}
 use Rattle.session.specs.Model.{lengths_of, Fed}
+use Rattle.refusal.specs.declared.Refusal.{Refusal}
 
 -- a call, and the lists lent to it
 pub record Turn : Type 0 where
@@ -45,7 +47,7 @@ abbrev pub Linked : ℕ → Lent → List Turn → Type 0
 Linked kind b [] = Unit
 Linked kind b (t ∷ ts) = Carried b t.lent × Linked kind (after kind b t) ts
 
-unfoldable pub answers : ℕ → List Turn → List Edited
+unfoldable pub answers : ℕ → List Turn → List (Result Edited Refusal)
 answers kind [] = []
 answers kind (t ∷ ts) = call_answer t.lent kind t.call ∷ answers kind ts
 

@@ -4,6 +4,7 @@ use mathlib.Core.Bool.{Bool, true, false}
 use mathlib.Core.List.{List, [], ◌∷◌}
 use native.Mathlib.Nat.{not-suc-le-zero}
 use native.Mathlib.Omega.{arith}
+use Rattle.std.proofs.Common.{Err}
 use Rattle.std.proofs.lemmas.List.{take_more, length-take-le}
 use Prim.Native.Nat.{ℕ, ◌+◌, ◌*◌, ◌≤◌, ◌<◌, zero-le}
 use lib.ListN.{length, get_or, set, take}
@@ -12,6 +13,8 @@ use lib.Ieee.{Float, nan}
 use Rattle.std.specs.List.{AllWithin, HoldsAt}
 use Rattle.views.specs.View.{overwrite}
 use Rattle.geom.specs.Point.{point}
+use Rattle.refusal.specs.Reasons.{refusal_at}
+use Rattle.refusal.specs.declared.Reason.TheVariants.{Arguments, Output, Made}
 use Rattle.refusal.specs.Order.{passes, holds, judge, first_failing, accepted, refused, verdict, tests}
 use Rattle.refusal.proofs.Verdicts.{holds_false, by_arguments}
 use Rattle.path.specs.declared.anchor.Anchor.{Anchor}
@@ -20,7 +23,6 @@ use Rattle.path.specs.Flat.{nth, put_anchor, put_all, listed}
 use Rattle.path.proofs.Puts.{put_next, put-listed}
 use Rattle.path.specs.Limit.{anchor_good}
 use Rattle.path.proofs.Limits.{GoodBelow, Least}
-use Rattle.call.specs.declared.answers.Outline.TheVariants.{Refused}
 use Rattle.call.specs.Tests.{outline_in, outline_limit, room_for}
 use Rattle.call.proofs.Openings.{places_fail, places_pass}
 use Rattle.call.proofs.Handings.{outline-refused, list_kept, anchors_kept}
@@ -28,19 +30,19 @@ use Rattle.shape.specs.Calls.{shape_verdict, shape_answer, shape_word, shape_num
 
 module _ (ps : List Anchor) (to_shapes : List ℕ) (to : List Float) where
   -- an argument beyond the limit
-  pub arguments_refused : (given : Bool) → given ≡ false → shape_verdict given ps to_shapes to ≡ refused 5 0
+  pub arguments_refused : (given : Bool) → given ≡ false → shape_verdict given ps to_shapes to ≡ refused (refusal_at Arguments 0)
   unfolding shape_verdict
   arguments_refused given g = by_arguments _ _ _ _ _ _ refl 0 (holds_false 0 g)
 
   -- none: 9 and 8 are left
-  arguments_pass : shape_verdict true ps to_shapes to ≡ judge (outline_limit ps) 9 (judge (holds (room_for 1 (length ps) to_shapes to) 0) 8 accepted)
+  arguments_pass : shape_verdict true ps to_shapes to ≡ judge (outline_limit ps) Made (judge (holds (room_for 1 (length ps) to_shapes to) 0) Output accepted)
   unfolding shape_verdict verdict first_failing tests judge holds
   arguments_pass = refl
 
   abbrev nowhere : Anchor
   nowhere = without_handles (point nan nan)
 
-  pub anchor_refused : (k : ℕ) → (k < length ps) × HoldsAt (λ a. anchor_good a ≡ false) ps k × AllWithin (λ a. anchor_good a ≡ true) ps 0 k → shape_verdict true ps to_shapes to ≡ refused 9 k
+  pub anchor_refused : (k : ℕ) → (k < length ps) × HoldsAt (λ a. anchor_good a ≡ false) ps k × AllWithin (λ a. anchor_good a ≡ true) ps 0 k → shape_verdict true ps to_shapes to ≡ refused (refusal_at Made k)
   unfolding outline_in nth outline_limit judge
   anchor_refused k h =
       let l : Least (outline_in ps) (length ps) k = record { place = h.0; bad = h.1 nowhere; below = λ j m. h.2 j nowhere zero-le m } in
@@ -51,7 +53,7 @@ module _ (ps : List Anchor) (to_shapes : List ℕ) (to : List Float) where
     unfolding outline_in nth
     within j l = good j nowhere zero-le l
 
-    pub room_refused : room_for 1 (length ps) to_shapes to ≡ false → shape_verdict true ps to_shapes to ≡ refused 8 0
+    pub room_refused : room_for 1 (length ps) to_shapes to ≡ false → shape_verdict true ps to_shapes to ≡ refused (refusal_at Output 0)
     unfolding outline_limit judge holds
     room_refused r = arguments_pass ∙ rw (places_pass (outline_in ps) (length ps) passes within, r)
 
@@ -76,7 +78,7 @@ pub all_put : (ps : List Anchor) (xs : List Float) (k : ℕ) → length ps ≤ k
 all_put ps xs k h room = ap (put_all xs 0) (take_all k ps h) ∙ put-listed ps xs room
 
 -- ---- an argument beyond the limit: what is answered and left
-pub refused_answer : (given : Bool) (ps : List Anchor) (to_shapes : List ℕ) (to : List Float) → given ≡ false → shape_answer given ps to_shapes to ≡ Refused 5 0
+pub refused_answer : (given : Bool) (ps : List Anchor) (to_shapes : List ℕ) (to : List Float) → given ≡ false → shape_answer given ps to_shapes to ≡ Err (refusal_at Arguments 0)
 unfolding shape_answer
 refused_answer given ps to_shapes to g = sym (outline-refused _ _ (arguments_refused ps to_shapes to given g))
 

@@ -8,6 +8,7 @@ use crate::outlines::{ellipse_between, fitted_radius, line_between, rounded, sha
 use call::Outline;
 use geom::P;
 use path::Anchor;
+use refusal::{Reason, Refusal};
 
 fn pair_in_limit(a: P, b: P) -> bool
     ensures { result ≡ pair_in a b }
@@ -16,33 +17,47 @@ fn pair_in_limit(a: P, b: P) -> bool
 }
 
 // One subpath of these anchors goes to the lent lists, unless a number of it breaks the limit or they are too short.
-fn hand_over(anchors: &[Anchor], closed: bool, to_shapes: &mut [u32], to: &mut [f64]) -> Outline
+fn hand_over(
+    anchors: &[Anchor],
+    closed: bool,
+    to_shapes: &mut [u32],
+    to: &mut [f64],
+) -> Result<Outline, Refusal>
     requires { length anchors.now ≤ 8 }
     ensures answer { result ≡ shape_answer true anchors.now to_shapes.old to.old }
     ensures shapes { to_shapes.new ≡ shape_word true anchors.now closed to_shapes.old to.old }
     ensures anchors { to.new ≡ shape_numbers true anchors.now to_shapes.old to.old }
 {
     if let Some(k) = anchors.iter().position(|a| !a.in_limit()) {
-        return Outline::Refused(refusal::RESULT, k);
+        return Err(Reason::Made.at(k));
     }
     if to_shapes.is_empty() || to.len() < anchors.len() * 6 {
-        return Outline::Refused(refusal::OUTPUT, 0);
+        return Err(Reason::Output.at(0));
     }
     to_shapes[0] = path::word(anchors.len(), closed);
     for (k, a) in anchors.iter().enumerate() {
         path::put_anchor(to, k, *a);
     }
-    Outline::Accepted(1, anchors.len())
+    Ok(Outline {
+        subpaths: 1,
+        anchors: anchors.len(),
+    })
 }
 
 // The rectangle of which a and b are opposite corners, its corners rounded by the radius as far as that fits.
-pub fn rect(a: P, b: P, radius: f64, to_shapes: &mut [u32], to: &mut [f64]) -> Outline
+pub fn rect(
+    a: P,
+    b: P,
+    radius: f64,
+    to_shapes: &mut [u32],
+    to: &mut [f64],
+) -> Result<Outline, Refusal>
     ensures answer { result ≡ shape_answer (pair_in a b && in_limit radius) (rect_anchors a b radius) to_shapes.old to.old }
     ensures shapes { to_shapes.new ≡ shape_word (pair_in a b && in_limit radius) (rect_anchors a b radius) true to_shapes.old to.old }
     ensures anchors { to.new ≡ shape_numbers (pair_in a b && in_limit radius) (rect_anchors a b radius) to_shapes.old to.old }
 {
     if !pair_in_limit(a, b) || !real::in_limit(radius) {
-        return Outline::Refused(refusal::ARGUMENTS, 0);
+        return Err(Reason::Arguments.at(0));
     }
     let lo = P::new(real::min(a.x, b.x), real::min(a.y, b.y));
     let hi = P::new(real::max(a.x, b.x), real::max(a.y, b.y));
@@ -55,25 +70,25 @@ pub fn rect(a: P, b: P, radius: f64, to_shapes: &mut [u32], to: &mut [f64]) -> O
 }
 
 // The ellipse that fills the box between a and b.
-pub fn ellipse(a: P, b: P, to_shapes: &mut [u32], to: &mut [f64]) -> Outline
+pub fn ellipse(a: P, b: P, to_shapes: &mut [u32], to: &mut [f64]) -> Result<Outline, Refusal>
     ensures answer { result ≡ shape_answer (pair_in a b) (ellipse_anchors a b) to_shapes.old to.old }
     ensures shapes { to_shapes.new ≡ shape_word (pair_in a b) (ellipse_anchors a b) true to_shapes.old to.old }
     ensures anchors { to.new ≡ shape_numbers (pair_in a b) (ellipse_anchors a b) to_shapes.old to.old }
 {
     if !pair_in_limit(a, b) {
-        return Outline::Refused(refusal::ARGUMENTS, 0);
+        return Err(Reason::Arguments.at(0));
     }
     hand_over(&ellipse_between(a, b), true, to_shapes, to)
 }
 
 // The straight line from a to b.
-pub fn line(a: P, b: P, to_shapes: &mut [u32], to: &mut [f64]) -> Outline
+pub fn line(a: P, b: P, to_shapes: &mut [u32], to: &mut [f64]) -> Result<Outline, Refusal>
     ensures answer { result ≡ shape_answer (pair_in a b) (line_anchors a b) to_shapes.old to.old }
     ensures shapes { to_shapes.new ≡ shape_word (pair_in a b) (line_anchors a b) false to_shapes.old to.old }
     ensures anchors { to.new ≡ shape_numbers (pair_in a b) (line_anchors a b) to_shapes.old to.old }
 {
     if !pair_in_limit(a, b) {
-        return Outline::Refused(refusal::ARGUMENTS, 0);
+        return Err(Reason::Arguments.at(0));
     }
     hand_over(&line_between(a, b), false, to_shapes, to)
 }

@@ -10,6 +10,7 @@ use lib.ListN.{length, take, drop}
 use lib.Seq.{take_at}
 use lib.Ieee.{Float}
 use borrow.Author.Tests.{le-leb, lt-leb}
+use Rattle.std.proofs.Common.{Ok, Err, Result}
 use Rattle.views.specs.View.{entry}
 use Rattle.views.specs.Search.{all}
 use Rattle.views.proofs.Laws.{order}
@@ -21,12 +22,13 @@ use Rattle.decimal.proofs.Puts.{roomy}
 use Rattle.path.specs.Limit.{anchor_in}
 use Rattle.path.specs.Flat.{anchor_at}
 use Rattle.path.proofs.Limits.{GoodBelow}
-use Rattle.refusal.specs.Order.{Test, passes, fails, holds, judge, Verdict, accepted, refused}
+use Rattle.refusal.specs.Reasons.{refusal_at}
+use Rattle.refusal.specs.declared.Refusal.{Refusal}
+use Rattle.refusal.specs.declared.Reason.TheVariants.{Arguments, Lists, Output}
+use Rattle.refusal.specs.Order.{Test, passes, fails, holds, judge, Verdict, accepted, refused, answering}
 use Rattle.refusal.proofs.Verdicts.{holds_true, holds_false, in_order, by_arguments}
-use Rattle.call.specs.declared.opening.Opened.TheVariants as opened
 use Rattle.call.specs.Tests.{path_fits, path_limit, opened_path}
 use Rattle.call.proofs.Openings.{PathOpens, path_refused}
-use Rattle.svg_calls.specs.declared.calls.Answer.TheVariants.{Refused, Accepted}
 use Rattle.svg_grammar.specs.ReadsAs.{ReadsAs}
 use Rattle.svg.specs.Path.{commands_of, text_of}
 use Rattle.svg.specs.Pieces.{Placed}
@@ -70,18 +72,18 @@ placed anchors n few long good j l =
 
 -- ---- a text by the room that there is
 module _ (text out : List ℕ) where
-  pub without_room : length out < length text → (Refused 8 0 ≡ handed_answer text out) × (out ≡ handed_left text out)
-  unfolding handed_answer handed_left room_verdict text_room judge holds answer left
+  pub without_room : length out < length text → (Err (refusal_at Output 0) ≡ handed_answer text out) × (out ≡ handed_left text out)
+  unfolding handed_answer handed_left room_verdict text_room judge holds answer answering left
   without_room h = let l = lt-leb (length text) (length out) h in (rw l, rw l)
 
-  with_room : length text ≤ length out → (Accepted (length text) ≡ handed_answer text out) × (text ++ drop (length text) out ≡ handed_left text out)
-  unfolding handed_answer handed_left room_verdict text_room judge holds answer left
+  with_room : length text ≤ length out → (Ok (length text) ≡ handed_answer text out) × (text ++ drop (length text) out ≡ handed_left text out)
+  unfolding handed_answer handed_left room_verdict text_room judge holds answer answering left
   with_room h = let l = le-leb (length text) (length out) h in (rw l, rw l)
 
-  pub put_in_room : {m : List ℕ} {to : ℕ} → Put out 0 text m to → length text ≤ length out → (Accepted to ≡ handed_answer text out) × (m ≡ handed_left text out)
+  pub put_in_room : {m : List ℕ} {to : ℕ} → Put out 0 text m to → length text ≤ length out → (Ok to ≡ handed_answer text out) × (m ≡ handed_left text out)
   put_in_room {m} {to} p h =
       let a = with_room h in
-      (ap Accepted (p.end ∙ zero-add (length text)) ∙ a.0, rw zero-add at (roomy out m 0 to text p (rw zero-add h)) ∙ a.1)
+      (ap Ok (p.end ∙ zero-add (length text)) ∙ a.0, rw zero-add at (roomy out m 0 to text p (rw zero-add h)) ∙ a.1)
 
 -- ---- `to_svg_d`
 module _ (shapes : List ℕ) (anchors : List Float) (out : List ℕ) where
@@ -89,18 +91,18 @@ module _ (shapes : List ℕ) (anchors : List Float) (out : List ℕ) where
   text = text_of shapes (anchor_at anchors)
 
   -- the answer and the list, by the verdict
-  refuses : {n place : ℕ} → to_svg_d_verdict shapes anchors out ≡ refused n place → (Refused n place ≡ to_svg_d_answer shapes anchors out) × (out ≡ to_svg_d_left shapes anchors out)
-  unfolding to_svg_d_answer to_svg_d_left answer left
+  refuses : {why : Refusal} → to_svg_d_verdict shapes anchors out ≡ refused why → (Err why ≡ to_svg_d_answer shapes anchors out) × (out ≡ to_svg_d_left shapes anchors out)
+  unfolding to_svg_d_answer to_svg_d_left answer answering left
   refuses e = (rw e, rw e)
 
-  accepts : to_svg_d_verdict shapes anchors out ≡ accepted → (Accepted (length text) ≡ to_svg_d_answer shapes anchors out) × (text ++ drop (length text) out ≡ to_svg_d_left shapes anchors out)
-  unfolding to_svg_d_answer to_svg_d_left answer left
+  accepts : to_svg_d_verdict shapes anchors out ≡ accepted → (Ok (length text) ≡ to_svg_d_answer shapes anchors out) × (text ++ drop (length text) out ≡ to_svg_d_left shapes anchors out)
+  unfolding to_svg_d_answer to_svg_d_left answer answering left
   accepts e = (rw e, rw e)
 
   -- by what the opening of the path found
-  pub not_opened : (n place : ℕ) → opened_path 1024 shapes anchors ≡ opened.Refused n place → (Refused n place ≡ to_svg_d_answer shapes anchors out) × (out ≡ to_svg_d_left shapes anchors out)
+  pub not_opened : (why : Refusal) → opened_path 1024 shapes anchors ≡ Err why → (Err why ≡ to_svg_d_answer shapes anchors out) × (out ≡ to_svg_d_left shapes anchors out)
   unfolding to_svg_d_verdict
-  not_opened n place e = refuses (in_order _ _ _ _ _ _ ∙ path_refused 1024 shapes anchors n place e true _)
+  not_opened why e = refuses (in_order _ _ _ _ _ _ ∙ path_refused 1024 shapes anchors why e true _)
 
   opened-verdict : {n : ℕ} → PathOpens 1024 shapes anchors n → to_svg_d_verdict shapes anchors out ≡ room_verdict text out
   unfolding to_svg_d_verdict room_verdict judge holds
@@ -111,7 +113,7 @@ module _ (shapes : List ℕ) (anchors : List Float) (out : List ℕ) where
   as_handed o = let v = opened-verdict o in (rw v, rw v)
 
   -- ---- what an accepted call leaves at the start of the list is path data, of the path's commands
-  never : (a b : Test) → judge a 7 (judge b 5 (refused 8 0)) ≡ accepted → ⊥
+  never : (a b : Test) → judge a Lists (judge b Arguments (refused (refusal_at Output 0))) ≡ accepted → ⊥
   unfolding judge
   never passes passes e = let z : ◌≡◌ {A = ℕ} 0 1 = cc in omega arith
   never passes (fails k) e = let z : ◌≡◌ {A = ℕ} 0 1 = cc in omega arith
@@ -125,18 +127,18 @@ module _ (shapes : List ℕ) (anchors : List Float) (out : List ℕ) where
   fits : to_svg_d_verdict shapes anchors out ≡ accepted → length text ≤ length out
   fits e = ⊎_elim (λ h. h) (λ r. absurd (no_accept r e)) (order (length text) (length out))
 
-  pub accepted_reads : (n : ℕ) → to_svg_d_answer shapes anchors out ≡ Accepted n
+  pub accepted_reads : (n : ℕ) → to_svg_d_answer shapes anchors out ≡ Ok n
       → (n ≡ length text) × (n ≤ length out) × ReadsAs (take n (to_svg_d_left shapes anchors out)) (commands_of shapes (anchor_at anchors))
   accepted_reads n e = go (to_svg_d_verdict shapes anchors out) refl
     where
-      differ : (c k : ℕ) → Refused c k ≡ Accepted n → ⊥
-      differ c k f = let z : ◌≡◌ {A = ℕ} 0 1 = cc in omega arith
+      differ : (why : Refusal) → ◌≡◌ {A = Result ℕ Refusal} (Err why) (Ok n) → ⊥
+      differ why f = let z : ◌≡◌ {A = ℕ} 0 1 = cc in omega arith
 
-      same : (m : ℕ) → Accepted m ≡ Accepted n → n ≡ m
+      same : (m : ℕ) → ◌≡◌ {A = Result ℕ Refusal} (Ok m) (Ok n) → n ≡ m
       same m f = cc
 
       go : (v : Verdict) → to_svg_d_verdict shapes anchors out ≡ v → (n ≡ length text) × (n ≤ length out) × ReadsAs (take n (to_svg_d_left shapes anchors out)) (commands_of shapes (anchor_at anchors))
-      go (refused c k) j = absurd (differ c k ((refuses j).0 ∙ e))
+      go (refused why) j = absurd (differ why ((refuses j).0 ∙ e))
       go accepted j =
           let a = accepts j in
           let q : n ≡ length text = same (length text) (a.0 ∙ e) in
@@ -146,8 +148,8 @@ module _ (shapes : List ℕ) (anchors : List Float) (out : List ℕ) where
 
 -- ---- `write_num`
 module _ (x : Float) (out : List ℕ) where
-  pub number_outside : in_limit x ≡ false → (Refused 5 0 ≡ write_num_answer x out) × (out ≡ write_num_left x out)
-  unfolding write_num_answer write_num_left write_num_verdict answer left
+  pub number_outside : in_limit x ≡ false → (Err (refusal_at Arguments 0) ≡ write_num_answer x out) × (out ≡ write_num_left x out)
+  unfolding write_num_answer write_num_left write_num_verdict answer answering left
   number_outside e = let v = by_arguments passes _ passes passes passes (text_room (float_text x) out) refl 0 (holds_false 0 e) in (rw v, rw v)
 
   number-verdict : in_limit x ≡ true → write_num_verdict x out ≡ room_verdict (float_text x) out

@@ -9,65 +9,53 @@ ghost use Rattle.svg.specs.Path.{text_of};
 ghost use Rattle.svg.specs.Pieces.{Placed};
 ghost use Rattle.svg_calls.specs.Call.{to_svg_d_answer, to_svg_d_left, write_num_answer, write_num_left, handed_answer, handed_left};
 
-use call::Opened;
 use decimal::Text;
+use refusal::{Reason, Refusal};
 use svg::put_path;
 
-// A refusal's number and place, or the text's length.
-#[derive(Clone, Copy)]
-pub enum Answer {
-    Refused(u32, usize),
-    Accepted(usize),
-}
-
-// The SVG path data of a path of at most 1,024 anchors.
-pub fn to_svg_d(shapes: &[u32], anchors: &[f64], out: &mut [u8]) -> Answer
+// The SVG path data of a path of at most 1,024 anchors. The answer is the text's length.
+pub fn to_svg_d(shapes: &[u32], anchors: &[f64], out: &mut [u8]) -> Result<usize, Refusal>
     ensures answer { result ≡ to_svg_d_answer shapes.now anchors.now out.old }
     ensures left { out.new ≡ to_svg_d_left shapes.now anchors.now out.old }
 {
-    let opened = call::open_path(1024, shapes, anchors);
-    match opened {
-        Opened::Refused(number, place) => Answer::Refused(number, place),
-        Opened::Anchors(n) => hand_text(shapes, anchors, n, out),
-    }
+    let n = call::open_path(1024, shapes, anchors)?;
+    hand_text(shapes, anchors, n, out)
 }
 
-// The text of a path of n anchors: refused 8 where the list is too short, else written. An anchor takes at most 73 bytes, and a subpath 27
+// The text of a path of n anchors: refused where the list is too short, else written. An anchor takes at most 73 bytes, and a subpath 27
 // beside, so that a list with that room is written at once. Else the text is first put to a list of one byte, past whose end it is counted
 // and not stored.
-fn hand_text(shapes: &[u32], anchors: &[f64], n: usize, out: &mut [u8]) -> Answer
+fn hand_text(shapes: &[u32], anchors: &[f64], n: usize, out: &mut [u8]) -> Result<usize, Refusal>
     requires by_index { (j : ℕ) → j < total shapes.now → Placed anchors.now j }
     requires shapes_len_bound { (length shapes.now ≤ 32) × (total shapes.now ≤ 1024) × (n ≡ total shapes.now) }
     ensures answer { result ≡ handed_answer (text_of shapes.now (anchor_at anchors.now)) out.old }
     ensures left { out.new ≡ handed_left (text_of shapes.now (anchor_at anchors.now)) out.old }
 {
     if out.len() >= 73 * n + 27 * shapes.len() {
-        return Answer::Accepted(put_path(shapes, anchors, out));
+        return Ok(put_path(shapes, anchors, out));
     }
-    let mut none = [0u8; 1];
-    let length = put_path(shapes, anchors, &mut none);
+    let length = put_path(shapes, anchors, &mut [0u8; 1]);
     if out.len() < length {
-        return Answer::Refused(refusal::OUTPUT, 0);
+        return Err(Reason::Output.at(0));
     }
     put_path(shapes, anchors, out);
-    Answer::Accepted(length)
+    Ok(length)
 }
 
-// A number to three decimals, without trailing zeros, never "-0".
-pub fn write_num(x: f64, out: &mut [u8]) -> Answer
+// A number to three decimals, without trailing zeros, never "-0". The answer is the text's length.
+pub fn write_num(x: f64, out: &mut [u8]) -> Result<usize, Refusal>
     ensures answer { result ≡ write_num_answer x out.old }
     ensures left { out.new ≡ write_num_left x out.old }
 {
     if !real::in_limit(x) {
-        return Answer::Refused(refusal::ARGUMENTS, 0);
+        return Err(Reason::Arguments.at(0));
     }
-    let mut none = [0u8; 1];
-    let bytes = put_number(x, &mut none);
+    let bytes = put_number(x, &mut [0u8; 1]);
     if out.len() < bytes {
-        return Answer::Refused(refusal::OUTPUT, 0);
+        return Err(Reason::Output.at(0));
     }
     put_number(x, out);
-    Answer::Accepted(bytes)
+    Ok(bytes)
 }
 
 // Puts a number's text from a list's start.

@@ -3,4 +3,4 @@
 
 mod calls;
 
-pub use calls::{Answer, to_svg_d, write_num};
+pub use calls::{to_svg_d, write_num};

@@ -6,14 +6,16 @@ use Prim.Native.Nat.{ℕ, ◌*◌, ◌≤◌}
 use native.Mathlib.Omega.{arith}
 use lib.ListN.{length, get_or}
 use lib.Ieee.{Float}
+use Rattle.std.proofs.Common.{Ok, Err}
 use Rattle.views.specs.View.{overwrite}
 use Rattle.views.proofs.Laws.{length-tabulate}
+use Rattle.refusal.specs.Reasons.{refusal_at}
+use Rattle.refusal.specs.declared.Refusal.{Refusal}
+use Rattle.refusal.specs.declared.Reason.TheVariants.{Arguments, Output, Made}
 use Rattle.refusal.specs.Order.{passes, holds, judge, accepted, refused}
 use Rattle.refusal.proofs.Verdicts.{holds_true, holds_false, in_order, by_arguments}
 use Rattle.path.specs.Shape.{total}
 use Rattle.path.specs.Flat.{anchor_numbers, listed}
-use Rattle.call.specs.declared.answers.Outline.TheVariants.{Refused, Accepted}
-use Rattle.call.specs.declared.opening.Opened.TheVariants as opened
 use Rattle.call.specs.Tests.{outline_limit, room_for, opened_path}
 use Rattle.call.specs.Answers.{outline_answer, list_left, anchors_left, handed_verdict, handed_answer, handed_shapes, handed_anchors}
 use Rattle.call.proofs.Openings.{PathOpens, path_refused}
@@ -23,30 +25,30 @@ use Rattle.transform.specs.Call.{transform_verdict, transform_answer, transform_
 use Rattle.transform.proofs.Laid.{listed_table}
 
 module _ (shapes : List ℕ) (anchors m : List Float) (to_shapes : List ℕ) (to : List Float) where
-  pub refused_so : (c k : ℕ) → transform_verdict shapes anchors m to_shapes to ≡ refused c k
-      → (Refused c k ≡ transform_answer shapes anchors m to_shapes to) × (to_shapes ≡ transform_shapes shapes anchors m to_shapes to) × (to ≡ transform_anchors shapes anchors m to_shapes to)
+  pub refused_so : (why : Refusal) → transform_verdict shapes anchors m to_shapes to ≡ refused why
+      → (Err why ≡ transform_answer shapes anchors m to_shapes to) × (to_shapes ≡ transform_shapes shapes anchors m to_shapes to) × (to ≡ transform_anchors shapes anchors m to_shapes to)
   unfolding transform_answer transform_shapes transform_anchors
-  refused_so c k v = (outline-refused _ _ v, list_kept _ _ _ v, anchors_kept _ _ v)
+  refused_so why v = (outline-refused _ _ v, list_kept _ _ _ v, anchors_kept _ _ v)
 
-  pub path_fails : (c k : ℕ) → opened_path 512 shapes anchors ≡ opened.Refused c k → transform_verdict shapes anchors m to_shapes to ≡ refused c k
+  pub path_fails : (why : Refusal) → opened_path 512 shapes anchors ≡ Err why → transform_verdict shapes anchors m to_shapes to ≡ refused why
   unfolding transform_verdict
-  path_fails c k e = in_order _ _ _ _ _ _ ∙ path_refused 512 shapes anchors c k e (map_in m) _
+  path_fails why e = in_order _ _ _ _ _ _ ∙ path_refused 512 shapes anchors why e (map_in m) _
 
   module _ (n : ℕ) (o : PathOpens 512 shapes anchors n) where
-    pub map_fails : map_in m ≡ false → transform_verdict shapes anchors m to_shapes to ≡ refused 5 n
+    pub map_fails : map_in m ≡ false → transform_verdict shapes anchors m to_shapes to ≡ refused (refusal_at Arguments n)
     unfolding transform_verdict
     map_fails e = rw o.count (by_arguments _ _ _ _ _ _ o.lists_pass (total shapes) (o.places_good (map_in m) ∙ holds_false (total shapes) e))
 
     module _ (e : map_in m ≡ true) where
       -- 9 and 8 are left
       passes_on : transform_verdict shapes anchors m to_shapes to
-          ≡ judge (outline_limit (mapped_path m shapes anchors)) 9 (judge (holds (room_for (length shapes) (total shapes) to_shapes to) 0) 8 accepted)
+          ≡ judge (outline_limit (mapped_path m shapes anchors)) Made (judge (holds (room_for (length shapes) (total shapes) to_shapes to) 0) Output accepted)
       unfolding transform_verdict judge
       passes_on = in_order _ _ _ _ _ _ ∙ rw (o.lists_pass, o.places_good (map_in m), holds_true (total shapes) e)
 
       -- where 9 is known to pass, 8 alone is left
       module _ (p9 : outline_limit (mapped_path m shapes anchors) ≡ passes) where
-        pub no_room : room_for (length shapes) (total shapes) to_shapes to ≡ false → transform_verdict shapes anchors m to_shapes to ≡ refused 8 0
+        pub no_room : room_for (length shapes) (total shapes) to_shapes to ≡ false → transform_verdict shapes anchors m to_shapes to ≡ refused (refusal_at Output 0)
         unfolding judge
         no_room r = passes_on ∙ rw (p9, holds_false 0 r)
 
@@ -55,7 +57,7 @@ module _ (shapes : List ℕ) (anchors m : List Float) (to_shapes : List ℕ) (to
         room-left r = passes_on ∙ rw (p9, holds_true 0 r)
 
         pub written : room_for (length shapes) (total shapes) to_shapes to ≡ true
-            → (Accepted (length shapes) (total shapes) ≡ transform_answer shapes anchors m to_shapes to)
+            → (Ok (record { subpaths = length shapes; anchors = total shapes }) ≡ transform_answer shapes anchors m to_shapes to)
             × (overwrite (length shapes) (λ i. get_or shapes i 0) to_shapes ≡ transform_shapes shapes anchors m to_shapes to)
             × (overwrite (total shapes * 6) (anchor_numbers (mapped_at m anchors)) to ≡ transform_anchors shapes anchors m to_shapes to)
         unfolding transform_answer transform_shapes transform_anchors mapped_path
@@ -81,7 +83,7 @@ module _ (shapes : List ℕ) (anchors m : List Float) (to_shapes : List ℕ) (to
         same-verdict : handed_verdict shapes made to_shapes to ≡ transform_verdict shapes anchors m to_shapes to
         same-verdict =
             listed-verdict (mapped_path m shapes anchors) xs long shapes made to_shapes to laid (sym count)
-            ∙ ap (λ k. judge (outline_limit (mapped_path m shapes anchors)) 9 (judge (holds (room_for (length shapes) k to_shapes to) 0) 8 accepted)) count
+            ∙ ap (λ k. judge (outline_limit (mapped_path m shapes anchors)) Made (judge (holds (room_for (length shapes) k to_shapes to) 0) Output accepted)) count
             ∙ sym passes_on
 
         pub handed : (handed_answer shapes made to_shapes to ≡ transform_answer shapes anchors m to_shapes to)

@@ -7,6 +7,7 @@ use native.Mathlib.Omega.{arith}
 use lib.IntN.{ℤ}
 use lib.ListN.{length}
 use lib.Ieee.{Float, nan, inf, fin, binary64, neg, le}
+use Rattle.std.proofs.Common.{Ok}
 use Rattle.views.specs.View.{entry, tabulate}
 use Rattle.views.specs.Search.{all}
 use Rattle.views.proofs.Bools.{both}
@@ -25,7 +26,6 @@ use Rattle.path.specs.Limit.{within_limit, anchor_good}
 use Rattle.path.proofs.Shapes.{Fits}
 use Rattle.path.proofs.Limits.{anchors_in}
 use Rattle.path.proofs.Places.{anchor-number}
-use Rattle.call.specs.declared.opening.Opened.TheVariants.{Anchors}
 use Rattle.call.specs.Tests.{opened_path, outline_in, outline_limit}
 use Rattle.call.proofs.Openings.{places_pass, path_good}
 use Rattle.transform.specs.Mapped.{mapped, mapped_at, mapped_path}
@@ -89,10 +89,10 @@ module _ (m : List Float) (r : Float) (X : Keeps r (entry m 0) (entry m 2) (entr
 
 -- ---- the tests of a call
 module _ (shapes : List ℕ) (anchors m : List Float) (n : ℕ) (f : Fits shapes 512 n) where
-  pub opens : n * 6 ≤ length anchors → all (λ i. in_limit (entry anchors i)) (n * 6) ≡ true → opened_path 512 shapes anchors ≡ Anchors (total shapes)
+  pub opens : n * 6 ≤ length anchors → all (λ i. in_limit (entry anchors i)) (n * 6) ≡ true → opened_path 512 shapes anchors ≡ Ok (total shapes)
   opens h g =
       let e = f.count in
-      sym (path_good 512 shapes anchors n f h (λ k l. anchors_in anchors n g k (omega arith))) ∙ ap Anchors e
+      sym (path_good 512 shapes anchors n f h (λ k l. anchors_in anchors n g k (omega arith))) ∙ ap Ok e
 
   pub result_passes : all (λ i. in_limit (anchor_numbers (mapped_at m anchors) i)) (n * 6) ≡ true → outline_limit (mapped_path m shapes anchors) ≡ passes
   unfolding outline_limit mapped_path outline_in anchor_good nth

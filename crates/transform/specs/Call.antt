@@ -1,5 +1,6 @@
 -- What `transform` answers, and what it leaves in the lists lent to it: refusals 7, 5, 9, 8. Assumes nothing.
-use Rattle.std.specs.Prelude.{ℕ, List, length, get_or, Float}
+use Rattle.std.specs.Prelude.{ℕ, List, length, get_or, Float, Result}
+use Rattle.refusal.specs.declared.Refusal.{Refusal}
 use Rattle.refusal.specs.Order.{passes, holds, Verdict, verdict, tests}
 use Rattle.path.specs.Shape.{total}
 use Rattle.call.specs.declared.answers.Outline.{Outline}
@@ -18,7 +19,7 @@ transform_verdict shapes anchors m to_shapes to =
     (outline_limit (mapped_path m shapes anchors))
     (holds (room_for (length shapes) (total shapes) to_shapes to) 0))
 
-unfoldable pub transform_answer : List ℕ → List Float → List Float → List ℕ → List Float → Outline
+unfoldable pub transform_answer : List ℕ → List Float → List Float → List ℕ → List Float → Result Outline Refusal
 transform_answer shapes anchors m to_shapes to = outline_answer (transform_verdict shapes anchors m to_shapes to) (length shapes) (total shapes)
 
 -- the shape words stay what they are

@@ -1,5 +1,5 @@
 // Whether a map keeps a path in limit, found by magnitudes alone: no anchor is mapped.
-ghost use Rattle.std.specs.Prelude.{◌≡◌, true, ◌*◌, ◌≤◌, T, length};
+ghost use Rattle.std.specs.Prelude.{◌≡◌, true, ◌*◌, ◌≤◌, T, length, Ok};
 ghost use Rattle.views.specs.View.{entry};
 ghost use Rattle.views.specs.Search.{all};
 ghost use Rattle.real.specs.StandIns.{abs};
@@ -8,7 +8,6 @@ ghost use Rattle.real.specs.Operators.{◌⊕◌, ◌⊗◌};
 ghost use Rattle.refusal.specs.Order.{passes};
 ghost use Rattle.path.specs.Shape.{total};
 ghost use Rattle.path.specs.Flat.{anchor_numbers};
-ghost use Rattle.call.specs.declared.opening.Opened.TheVariants.{Anchors};
 ghost use Rattle.call.specs.Tests.{opened_path, outline_limit};
 ghost use Rattle.transform.specs.Mapped.{mapped_at, mapped_path, map_in};
 
@@ -43,7 +42,7 @@ fn stays_in_limit(m: [f64; 6], anchors: &[f64], n: usize) -> bool
 
 // Whether refusals 7, 5 and 9 are found not to come.
 pub fn all_but_room(shapes: &[u32], anchors: &[f64], m: [f64; 6]) -> bool
-    ensures { T result → (opened_path 512 shapes.now anchors.now ≡ Anchors (total shapes.now)) × (map_in m ≡ true) × (outline_limit (mapped_path m shapes.now anchors.now) ≡ passes) }
+    ensures { T result → (opened_path 512 shapes.now anchors.now ≡ Ok (total shapes.now)) × (map_in m ≡ true) × (outline_limit (mapped_path m shapes.now anchors.now) ≡ passes) }
 {
     let Some(n) = path::size_test(shapes, 512) else {
         return false;

@@ -1,5 +1,6 @@
 -- Each return cites what the tests before it found.
-use mathlib.Core.Path.{refl, sym}
+use Rattle.std.proofs.Common.{◌≡◌, rules, Err}
+use mathlib.Core.Path.{refl, sym, ◌∙◌}
 use Rattle.path.proofs.Shapes.{has_says}
 use Rattle.call.proofs.Openings.{path_opens}
 use Rattle.call.proofs.Handings.{outline-refused, anchors_kept}
@@ -7,25 +8,26 @@ use Rattle.bend.specs.Edits.{smooth_verdict, smooth_answer, smooth_left}
 use Rattle.bend.proofs.Outcomes.{path_fails, unknown, edit-rest}
 use Rattle.bend.proofs.calls.auto_smooth.Goals as goal
 
-pub returns-in-Refused : goal.returns-in-Refused
+pub returns-in_err-count : goal.returns-in_err-count
 unfolding smooth_answer smooth_left smooth_verdict
-returns-in-Refused c =
-    let v = path_fails _ _ _ _ _ _ _ (sym c.in-Refused.ensures) in
-    record { answer = outline-refused _ _ v; anchors = anchors_kept _ _ v }
+returns-in_err-count c =
+    let e : c.from_residual.result ≡ Err c.in_err-count.field-0.0 = search rules in
+    let v = path_fails _ _ _ _ _ _ (sym c.open_path.ensures ∙ c.in_err-count.was) in
+    record { answer = e ∙ outline-refused _ _ v; anchors = anchors_kept _ _ v }
 
 pub returns-then-not-has_anchor : goal.returns-then-not-has_anchor
 unfolding smooth_answer smooth_left smooth_verdict
 returns-then-not-has_anchor c =
-    let v = unknown _ _ _ _ _ _ (path_opens 512 _ _ _ (sym c.in-Anchors.ensures)) refl (sym c.if-not-has_anchor.ensures) in
-    record { answer = outline-refused _ _ v; anchors = anchors_kept _ _ v }
+    let v = unknown _ _ _ _ _ _ (path_opens 512 _ _ _ (sym c.open_path.ensures ∙ c.in_ok-count.was)) refl (sym c.if-not-has_anchor.ensures) in
+    record { answer = rw c.at.ensures (outline-refused _ _ v); anchors = anchors_kept _ _ v }
 
 pub smooth_known-requires : goal.smooth_known-requires
 smooth_known-requires c =
-    let o = path_opens 512 _ _ _ (sym c.in-Anchors.ensures) in
+    let o = path_opens 512 _ _ _ (sym c.open_path.ensures ∙ c.in_ok-count.was) in
     let h = has_says _ _ _ (sym c.if-not-has_anchor.ensures) in
     (o.words, o.few, o.long, o.count, h.0, h.1, o.good)
 
-pub returns-else-not-has_anchor : goal.returns-else-not-has_anchor
+pub returns : goal.returns
 unfolding smooth_answer smooth_left smooth_verdict
-returns-else-not-has_anchor c =
-    rw (edit-rest _ _ _ _ _ _ (path_opens 512 _ _ _ (sym c.in-Anchors.ensures)) refl (sym c.if-not-has_anchor.ensures)) c.smooth_known.ensures
+returns c =
+    rw (edit-rest _ _ _ _ _ _ (path_opens 512 _ _ _ (sym c.open_path.ensures ∙ c.in_ok-count.was)) refl (sym c.if-not-has_anchor.ensures)) c.smooth_known.ensures

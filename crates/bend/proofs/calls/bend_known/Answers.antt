@@ -1,9 +1,7 @@
 -- Two anchors are put anew, or none.
 use Rattle.std.proofs.Common.{◌<◌, ◌≤◌}
-use mathlib.Core.Path.{sym, ap, ◌∙◌}
-use lib.ListN.{length}
+use mathlib.Core.Path.{sym, ◌∙◌}
 use Rattle.path.specs.Shape.{count_of, word_at}
-use Rattle.call.specs.declared.answers.Outline.TheVariants.{Accepted}
 use Rattle.call.proofs.Handings.{outline-refused, outline_accepted, anchors_kept, anchors_written}
 use Rattle.bend.specs.Edits.{bend_path}
 use Rattle.bend.proofs.Afterwards.{none_good, none-put}
@@ -19,7 +17,7 @@ returns-then-n-lt2 c =
     let kept = nothing-bent a.shapes.now a.s a.a a.anchors.now a.v a.keep l in
     let v = none_good _ _ _ p.5 p.2 kept in
     record {
-      answer = ap (Accepted (length a.shapes.now)) p.3 ∙ outline_accepted _ _ v;
+      answer = rw p.3 (outline_accepted _ _ v);
       anchors = none-put _ _ _ p.5 p.2 kept ∙ anchors_written _ _ v;
     }
 
@@ -31,7 +29,7 @@ returns-in-Some c =
     let two : 2 ≤ count_of (word_at a.shapes.now a.s) = rw (← c.count_of-n.ensures) c.if-n-lt2.false in
     let out = rw (c.bent_out-from.ensures, c.bent_in-to.ensures, c.anchor_at.ensures, c.anchor_at-2.ensures, c.next.ensures, c.count_of-n.ensures, c.start_of-first.ensures) at c.in-Some.ensures in
     let v = bent_bad a.shapes.now a.s a.a a.anchors.now a.v a.keep p.5 p.2 p.4 two _ (sym out) in
-    record { answer = outline-refused _ _ v; anchors = anchors_kept _ _ v }
+    record { answer = rw c.at.ensures (outline-refused _ _ v); anchors = anchors_kept _ _ v }
 
 pub returns : goal.returns
 unfolding bend_path
@@ -42,6 +40,6 @@ returns c =
     let none = rw (c.bent_out-from.ensures, c.bent_in-to.ensures, c.anchor_at.ensures, c.anchor_at-2.ensures, c.next.ensures, c.count_of-n.ensures, c.start_of-first.ensures) at (sym c.first_out.ensures ∙ c.in_default.is) in
     let v = bent_good a.shapes.now a.s a.a a.anchors.now a.v a.keep p.5 p.2 p.4 two none in
     record {
-      answer = ap (Accepted (length a.shapes.now)) p.3 ∙ outline_accepted _ _ v;
+      answer = rw p.3 (outline_accepted _ _ v);
       anchors = rw (c.put_anchor-2.ensures, c.put_anchor.ensures, c.bent_out-from.ensures, c.bent_in-to.ensures, c.anchor_at.ensures, c.anchor_at-2.ensures, c.next.ensures, c.count_of-n.ensures, c.start_of-first.ensures) (bent_put a.shapes.now a.s a.a a.anchors.now a.v a.keep p.5 p.2 p.4 two ∙ anchors_written _ _ v);
     }

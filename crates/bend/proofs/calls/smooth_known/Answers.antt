@@ -1,10 +1,8 @@
 -- One anchor is put anew, or none.
-use Rattle.std.proofs.Common.{◌+◌, ◌<◌, ◌≤◌}
+use Rattle.std.proofs.Common.{◌<◌, ◌≤◌}
 use mathlib.Core.Path.{sym, ap, ◌∙◌}
-use lib.ListN.{length}
 use Rattle.path.specs.Shape.{count_of, word_at}
 use Rattle.path.specs.Limit.{anchor_good}
-use Rattle.call.specs.declared.answers.Outline.TheVariants.{Refused, Accepted}
 use Rattle.call.proofs.Handings.{outline-refused, outline_accepted, anchors_kept, anchors_written}
 use Rattle.bend.specs.Edits.{smooth_path}
 use Rattle.bend.proofs.Afterwards.{none_good, none-put, one_bad, one_good, one_put}
@@ -20,7 +18,7 @@ returns-then-n-lt2 c =
     let kept = alone_kept a.shapes.now a.s a.k a.anchors.now l in
     let v = none_good _ _ _ p.6 p.2 kept in
     record {
-      answer = ap (Accepted (length a.shapes.now)) p.3 ∙ outline_accepted _ _ v;
+      answer = rw p.3 (outline_accepted _ _ v);
       anchors = none-put _ _ _ p.6 p.2 kept ∙ anchors_written _ _ v;
     }
 
@@ -33,7 +31,7 @@ returns-then-not-in_limit c =
     let made = made_of a.shapes.now a.s a.k a.anchors.now _ _ _ _ _ _ _ c.start_of-first.ensures c.count_of-n.ensures c.closed_of-closed.ensures c.point_before-before.ensures c.point_after-after.ensures c.anchor_at.ensures c.smoothed-a.ensures in
     let v = one_bad _ _ _ p.6 p.2 _ _ (place_inside _ _ _ p.4 p.5) (put_anew _ _ _ _ two) (others_kept _ _ _ _) (ap anchor_good (sym made) ∙ sym c.if-not-in_limit.ensures) in
     record {
-      answer = ap (λ z. Refused 9 (z + a.k)) c.start_of-first.ensures ∙ outline-refused _ _ v;
+      answer = rw (c.at.ensures, c.start_of-first.ensures) (outline-refused _ _ v);
       anchors = anchors_kept _ _ v;
     }
 
@@ -47,6 +45,6 @@ returns c =
     let inside = place_inside _ _ _ p.4 p.5 in
     let v = one_good _ _ _ p.6 p.2 _ _ inside (put_anew _ _ _ _ two) (others_kept _ _ _ _) (ap anchor_good (sym made) ∙ sym c.if-not-in_limit.ensures) in
     record {
-      answer = ap (Accepted (length a.shapes.now)) p.3 ∙ outline_accepted _ _ v;
+      answer = rw p.3 (outline_accepted _ _ v);
       anchors = rw (c.put_anchor.ensures, c.start_of-first.ensures, made) (one_put _ _ _ p.6 p.2 _ _ inside (put_anew _ _ _ _ two) (others_kept _ _ _ _) ∙ anchors_written _ _ v);
     }

@@ -10,19 +10,19 @@ pub returns-then-not-all_in_limit : goal.returns-then-not-all_in_limit
 unfolding corner_places
 returns-then-not-all_in_limit c =
     let r = beyond_limit _ _ _ _ _ c.find_corners-count.ensures.found c.args.places.now c.args.numbers.now (sym c.all_in_limit.ensures ∙ c.if-not-all_in_limit.true) in
-    record { answer = r.0; places = r.1.0; numbers = r.1.1 }
+    record { answer = rw c.at.ensures r.0; places = r.1.0; numbers = r.1.1 }
 
 pub returns-then-places-count : goal.returns-then-places-count
 unfolding corner_places
 returns-then-places-count c =
     let r = short-of-room _ _ _ _ _ c.find_corners-count.ensures.found c.args.places.now c.args.numbers.now (sym c.all_in_limit.ensures ∙ c.if-not-all_in_limit.false) (few_places _ _ _ (omega arith)) in
-    record { answer = r.0; places = r.1.0; numbers = r.1.1 }
+    record { answer = rw c.at-then-places-count.ensures r.0; places = r.1.0; numbers = r.1.1 }
 
 pub returns-then-numbers-count : goal.returns-then-numbers-count
 unfolding corner_places
 returns-then-numbers-count c =
     let r = short-of-room _ _ _ _ _ c.find_corners-count.ensures.found c.args.places.now c.args.numbers.now (sym c.all_in_limit.ensures ∙ c.if-not-all_in_limit.false) (few_numbers _ _ _ (omega arith)) in
-    record { answer = r.0; places = r.1.0; numbers = r.1.1 }
+    record { answer = rw c.at-then-numbers-count.ensures r.0; places = r.1.0; numbers = r.1.1 }
 
 pub returns : goal.returns
 unfolding corner_places

@@ -1,14 +1,13 @@
 -- `edit::splitting::split_between` meets its contract: one law for each answer.
-use Rattle.std.proofs.Common.{◌≡◌, ℕ, ◌+◌, ◌<◌, arith, length, List, Option}
+use Rattle.std.proofs.Common.{◌≡◌, ℕ, ◌+◌, ◌<◌, arith, List, Option}
 use lib.Ieee.{Float}
 use Rattle.path.specs.declared.anchor.Anchor.{Anchor}
 use Rattle.edit.specs.declared.splitting.Halved.{Halved}
-use mathlib.Core.Path.{◌∙◌, sym, ap}
+use mathlib.Core.Path.{◌∙◌, sym}
 use lib.ListN.{length-set}
 use Rattle.path.specs.Flat.{anchor_at}
 use Rattle.path.specs.Shape.{word_at}
 use Rattle.path.specs.Limit.{first_bad}
-use Rattle.call.specs.declared.answers.Outline.TheVariants.{Accepted}
 use Rattle.edit.specs.Split.{halves, shifted, puts_within, split_shapes}
 use Rattle.edit.proofs.Splits.{ends_apart}
 use Rattle.edit.proofs.Outcomes.{between-refused, between_bad, between-short, between_accepted}
@@ -33,16 +32,16 @@ returns-in-Some c =
     let a = c.args in
     let q = c.requires in
     let f = told a.anchors.now a.n a.a a.b a.t _ _ _ _ _ q.5 q.6 q.4 c.anchor_at.ensures c.anchor_at-2.ensures c.halves-h.ensures c.shifted.ensures c.first_out.ensures in
-    let h = between-refused a.shapes.now a.anchors.now a.n a.s a.a a.b a.t 9 _ (between_bad a.shapes.now a.anchors.now a.n a.s a.a a.b a.t q.4 q.7 _ (sym f ∙ c.in-Some.is)) in
-    record { answer = h.0; shapes = h.1; anchors = h.2 }
+    let h = between-refused a.shapes.now a.anchors.now a.n a.s a.a a.b a.t _ (between_bad a.shapes.now a.anchors.now a.n a.s a.a a.b a.t q.4 q.7 _ (sym f ∙ c.in-Some.is)) in
+    record { answer = rw c.at.ensures h.0; shapes = h.1; anchors = h.2 }
 
 pub returns-then-anchors-n : goal.returns-then-anchors-n
 returns-then-anchors-n c =
     let a = c.args in
     let q = c.requires in
     let f = told a.anchors.now a.n a.a a.b a.t _ _ _ _ _ q.5 q.6 q.4 c.anchor_at.ensures c.anchor_at-2.ensures c.halves-h.ensures c.shifted.ensures c.first_out.ensures in
-    let h = between-refused a.shapes.now a.anchors.now a.n a.s a.a a.b a.t 8 0 (between-short a.shapes.now a.anchors.now a.n a.s a.a a.b a.t q.4 q.7 (sym f ∙ c.in_default.is) (omega (arith, c.if-anchors-n.true))) in
-    record { answer = h.0; shapes = h.1; anchors = h.2 }
+    let h = between-refused a.shapes.now a.anchors.now a.n a.s a.a a.b a.t _ (between-short a.shapes.now a.anchors.now a.n a.s a.a a.b a.t q.4 q.7 (sym f ∙ c.in_default.is) (omega (arith, c.if-anchors-n.true))) in
+    record { answer = rw c.at-then-anchors-n.ensures h.0; shapes = h.1; anchors = h.2 }
 
 pub returns : goal.returns
 unfolding split_shapes
@@ -53,7 +52,7 @@ returns c =
     let h = between_accepted a.shapes.now a.anchors.now a.n a.s a.a a.b a.t q.4 q.7 (sym f ∙ c.in_default.is) q.6 q.5 (omega (arith, c.if-anchors-n.false)) in
     let e = c.count_up.ensures in
     record {
-      answer = ap (λ l. Accepted (length l) (a.n + 1)) e ∙ ap (λ l. Accepted l (a.n + 1)) (length-set a.shapes.now a.s (word_at a.shapes.now a.s + 1)) ∙ h.0;
+      answer = rw (e, length-set a.shapes.now a.s (word_at a.shapes.now a.s + 1)) h.0;
       shapes = e ∙ h.1;
       anchors = c.put_halves.ensures ∙ rw (c.halves-h.ensures, c.anchor_at-2.ensures, c.anchor_at.ensures) h.2;
     }

@@ -2,6 +2,8 @@
 use Rattle.std.proofs.Common.{◌≡◌, ℕ, arith, length}
 use mathlib.Core.Path.{sym, ap, ◌∙◌}
 use borrow.Author.Tests.{eqb-true, eqb-false}
+use Rattle.refusal.specs.Reasons.{refusal_at}
+use Rattle.refusal.specs.declared.Reason.TheVariants.{Output, Made}
 use Rattle.refusal.specs.Order.{refused}
 use Rattle.path.specs.Limit.{anchor_good}
 use Rattle.joining.specs.Joined.{target_at, joint_of}
@@ -15,8 +17,8 @@ returns-then-n-eq0 c =
     let a = c.args in
     let q = c.requires in
     let v = empty_target _ _ _ a.word _ _ _ q.0 q.1 q.2 q.3 q.4 (omega (arith, c.count_of-n.ensures, c.if-n-eq0.true)) in
-    let h = join-refused a.drawn.now a.count a.target.now a.word a.at_start a.to_shapes.now a.to.now 6 0 v in
-    record { answer = h.0; shapes = h.1; anchors = h.2 }
+    let h = join-refused a.drawn.now a.count a.target.now a.word a.at_start a.to_shapes.now a.to.now _ v in
+    record { answer = rw c.at.ensures h.0; shapes = h.1; anchors = h.2 }
 
 pub returns-then-before-n-gt512 : goal.returns-then-before-n-gt512
 returns-then-before-n-gt512 c =
@@ -25,8 +27,8 @@ returns-then-before-n-gt512 c =
     let n = c.count_of-n.ensures in
     let d = c.saturating_sub-before.ensures in
     let v = full _ _ _ a.word _ _ _ q.0 q.1 q.2 q.3 q.4 (omega (arith, n, c.if-n-eq0.false)) (omega (arith, n, d, c.if-before-n-gt512.true)) in
-    let h = join-refused a.drawn.now a.count a.target.now a.word a.at_start a.to_shapes.now a.to.now 10 0 v in
-    record { answer = h.0; shapes = h.1; anchors = h.2 }
+    let h = join-refused a.drawn.now a.count a.target.now a.word a.at_start a.to_shapes.now a.to.now _ v in
+    record { answer = rw c.at-then-before-n-gt512.ensures h.0; shapes = h.1; anchors = h.2 }
 
 pub returns-then-not-in_limit : goal.returns-then-not-in_limit
 returns-then-not-in_limit c =
@@ -36,9 +38,9 @@ returns-then-not-in_limit c =
     let d = c.saturating_sub-before.ensures in
     let j = c.joint_of-joint.ensures ∙ ap (joint_of a.drawn.now a.count) (c.target_at.ensures ∙ ap (λ (m : ℕ). target_at a.target.now m a.at_start 0) n) in
     let out = ap anchor_good (sym j) ∙ sym c.in_limit.ensures ∙ c.if-not-in_limit.true in
-    let v = joint_refused _ _ _ a.word _ _ _ q.0 q.1 q.2 q.3 q.4 (omega (arith, n, c.if-n-eq0.false)) (omega (arith, n, d, c.if-before-n-gt512.false)) out ∙ ap (refused 9) (sym d) in
-    let h = join-refused a.drawn.now a.count a.target.now a.word a.at_start a.to_shapes.now a.to.now 9 _ v in
-    record { answer = h.0; shapes = h.1; anchors = h.2 }
+    let v = joint_refused _ _ _ a.word _ _ _ q.0 q.1 q.2 q.3 q.4 (omega (arith, n, c.if-n-eq0.false)) (omega (arith, n, d, c.if-before-n-gt512.false)) out ∙ ap (λ (k : ℕ). refused (refusal_at Made k)) (sym d) in
+    let h = join-refused a.drawn.now a.count a.target.now a.word a.at_start a.to_shapes.now a.to.now _ v in
+    record { answer = rw c.at-then-not-in_limit.ensures h.0; shapes = h.1; anchors = h.2 }
 
 pub returns-then-is_empty : goal.returns-then-is_empty
 returns-then-is_empty c =
@@ -48,13 +50,13 @@ returns-then-is_empty c =
     let d = c.saturating_sub-before.ensures in
     let j = c.joint_of-joint.ensures ∙ ap (joint_of a.drawn.now a.count) (c.target_at.ensures ∙ ap (λ (m : ℕ). target_at a.target.now m a.at_start 0) n) in
     let inside = ap anchor_good (sym j) ∙ sym c.in_limit.ensures ∙ c.if-not-in_limit.false in
-    let v : join_verdict a.drawn.now a.count a.target.now a.word a.at_start a.to_shapes.now a.to.now ≡ refused 8 0 =
+    let v : join_verdict a.drawn.now a.count a.target.now a.word a.at_start a.to_shapes.now a.to.now ≡ refused (refusal_at Output 0) =
     elim c.then-is_empty.branch [
       | then-is_empty-via-then-is_empty w ↦ short_shapes _ _ _ _ _ _ _ q.0 q.1 q.2 q.3 q.4 (omega (arith, n, c.if-n-eq0.false)) (omega (arith, n, d, c.if-before-n-gt512.false)) inside (omega (arith, eqb-true (length a.to_shapes.now) 0 (sym w.if-is_empty.ensures)))
       | then-is_empty-via-else-is_empty+then-to-before w ↦ short_anchors _ _ _ _ _ _ _ q.0 q.1 q.2 q.3 q.4 (omega (arith, n, c.if-n-eq0.false)) (omega (arith, n, d, c.if-before-n-gt512.false)) inside (omega (arith, n, d, w.if-to-before.true))
     ] in
-    let h = join-refused a.drawn.now a.count a.target.now a.word a.at_start a.to_shapes.now a.to.now 8 0 v in
-    record { answer = h.0; shapes = h.1; anchors = h.2 }
+    let h = join-refused a.drawn.now a.count a.target.now a.word a.at_start a.to_shapes.now a.to.now _ v in
+    record { answer = rw c.at-then-is_empty.ensures h.0; shapes = h.1; anchors = h.2 }
 
 pub returns : goal.returns
 returns c =

@@ -44,9 +44,7 @@ put_drawing-requires c =
     (rw (e.shapes, e.anchors, e.radii) (given-drawn _ _ _ _ refl refl refl (omega arith) _ g), search rules)
 
 pub returns-in-Err : goal.returns-in-Err
-returns-in-Err c =
-    rw (← read-refused _ _ _ _ refl refl refl (omega arith) _ (sym c.in-Err.ensures.answer), ← c.from.ensures)
-    c.put_refused-in-Err.ensures
+returns-in-Err c = rw (← read-refused _ _ _ _ refl refl refl (omega arith) _ (sym c.in-Err.ensures.answer)) c.put_refusal.ensures
 
 pub returns-in-Ok : goal.returns-in-Ok
 returns-in-Ok c =

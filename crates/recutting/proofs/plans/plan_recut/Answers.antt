@@ -1,7 +1,5 @@
 -- What the recut of the stretch leaves is tested, and kept in the plan.
-use Rattle.std.proofs.Common.{Some}
 use mathlib.Core.Path.{refl, sym, ap, ◌∙◌}
-use mathlib.Core.Logic.{inl, inr}
 use native.Mathlib.Omega.{arith}
 use lib.ListN.{length}
 use Rattle.cut_calls.proofs.Laying.{length-numbers}
@@ -9,8 +7,8 @@ use Rattle.recutting.proofs.Unrolling.{stretch_count, index_in, stretch_numbers,
 use Rattle.recutting.proofs.Passing.{found_places}
 use Rattle.recutting.proofs.plans.plan_recut.Goals as goal
 
-pub first_bad-bad-requires-clause-by_index : goal.first_bad-bad-requires-clause-by_index
-first_bad-bad-requires-clause-by_index c i l h =
+pub first_bad-requires-clause-by_index : goal.first_bad-requires-clause-by_index
+first_bad-requires-clause-by_index c i l h =
     let a = c.args in
     let p = c.requires.about in
     let e = ap length c.recut-count.ensures.numbers ∙ length-numbers _ _ _ _ _ in
@@ -21,31 +19,27 @@ first_bad-bad-requires-clause-by_index c i l h =
 pub returns-in-Some : goal.returns-in-Some
 returns-in-Some c =
     let a = c.args in
-    let p = c.requires.about in
-    let n = c.refuse.ensures.0 in (
-      λ z. absurd (omega arith),
+    let p = c.requires.about in (
+      tt,
       λ v f.
           let h = stretch_numbers a.sub a.w a.s p.0 p.2 v a.kind a.anchors.now a.radii.now f _ _ (let z = p.0.short in omega arith) c.recut-count.ensures.numbers in
-          inl (n, sym (found_places a.sub a.w v a.s.from _ h) ∙ sym c.first_bad-bad.ensures ∙ c.in-Some.is ∙ ap Some (sym c.refuse.ensures.1)),
+          rw c.at.ensures (refl, sym (found_places a.sub a.w v a.s.from _ h) ∙ sym c.first_bad.ensures ∙ c.in-Some.is),
     )
 
-pub returns : goal.returns
-returns c =
+pub returns-in-None : goal.returns-in-None
+returns-in-None c =
     let a = c.args in
     let p = c.requires.about in
     let e = c.recut-count.ensures in (
-      λ z. refl,
+      refl,
       λ v f.
           let h = stretch_numbers a.sub a.w a.s p.0 p.2 v a.kind a.anchors.now a.radii.now f _ _ (let z = p.0.short in omega arith) e.numbers in
-          inr (
-            refl,
-            record {
-              none = sym (found_places a.sub a.w v a.s.from _ h) ∙ sym c.first_bad-bad.ensures ∙ c.in_default.is;
-              count = e.count ∙ stretch_count a.sub a.w a.s p.0 p.2;
-              inside = p.0.inside;
-              few = λ i l n. let k = index_in a.sub a.w a.s p.0 p.2 i l n in let z = p.0.short in omega arith;
-              numbers = h;
-              flags = stretch_flags a.sub a.w a.s p.0 p.2 v a.kind a.anchors.now a.radii.now f _ _ (let z = p.0.short in omega arith) e.flags;
-            },
-          ),
+          record {
+            none = sym (found_places a.sub a.w v a.s.from _ h) ∙ sym c.first_bad.ensures ∙ c.in-None.is;
+            count = e.count ∙ stretch_count a.sub a.w a.s p.0 p.2;
+            inside = p.0.inside;
+            few = λ i l n. let k = index_in a.sub a.w a.s p.0 p.2 i l n in let z = p.0.short in omega arith;
+            numbers = h;
+            flags = stretch_flags a.sub a.w a.s p.0 p.2 v a.kind a.anchors.now a.radii.now f _ _ (let z = p.0.short in omega arith) e.flags;
+          },
     )

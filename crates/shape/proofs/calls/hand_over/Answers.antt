@@ -1,6 +1,6 @@
 -- Each return cites what the tests before it found.
-use Rattle.std.proofs.Common.{rules, ◌≡◌, ◌<◌, length, true, false, refl}
-use mathlib.Core.Path.{◌∙◌}
+use Rattle.std.proofs.Common.{rules, ◌≡◌, ◌<◌, length, true, false, refl, Err}
+use mathlib.Core.Path.{ap, ◌∙◌}
 use native.Mathlib.Omega.{arith}
 use Rattle.std.proofs.lemmas.Iterator.{IsFirst-from_position, YieldsList-from_slice}
 use Rattle.path.specs.Limit.{anchor_good}
@@ -17,7 +17,7 @@ unfolding shape_answer shape_word shape_numbers
 returns-in-Some c =
     let found = IsFirst-from_position _ _ c.position.result (λ a. anchor_good a ≡ false) (λ a. anchor_good a ≡ true) c.position.ensures.ran (YieldsList-from_slice c.args.anchors.now cc) (λ x q k. search rules) (λ x q k. search rules) in
     let v = anchor_refused _ _ _ _ (rw c.in-Some.is at found) in
-    record { answer = outline-refused _ _ v; shapes = list_kept _ _ _ v; anchors = anchors_kept _ _ v }
+    record { answer = ap Err c.at.ensures ∙ outline-refused _ _ v; shapes = list_kept _ _ _ v; anchors = anchors_kept _ _ v }
 
 pub returns-then-is_empty : goal.returns-then-is_empty
 unfolding shape_answer shape_word shape_numbers
@@ -29,7 +29,7 @@ returns-then-is_empty c =
       | then-is_empty-via-else-is_empty+then-to-anchors w ↦ few_numbers _ _ _ _ w.if-to-anchors.true
     ] in
     let v = room_refused _ _ _ (rw c.in_default.is at found) r in
-    record { answer = outline-refused _ _ v; shapes = list_kept _ _ _ v; anchors = anchors_kept _ _ v }
+    record { answer = ap Err c.at-then-is_empty.ensures ∙ outline-refused _ _ v; shapes = list_kept _ _ _ v; anchors = anchors_kept _ _ v }
 
 pub loop-k-init : goal.loop-k-init
 unfolding put_all

@@ -4,7 +4,6 @@ use mathlib.Core.Path.{ap, ◌∙◌}
 use Rattle.views.specs.View.{overwrite}
 use Rattle.path.specs.Flat.{anchor_numbers}
 use Rattle.path.specs.Shape.{total}
-use Rattle.call.specs.declared.answers.Outline.TheVariants.{Accepted}
 use Rattle.call.specs.Tests.{room_for}
 use Rattle.call.proofs.Openings.{path_opens}
 use Rattle.call.proofs.Handings.{room, few_words, few_numbers}
@@ -33,8 +32,8 @@ returns-then-to_shapes-shapes c =
       | then-to_shapes-shapes-via-then-to_shapes-shapes w ↦ few_words _ _ _ _ (omega (arith, w.if-to_shapes-shapes.true))
       | then-to_shapes-shapes-via-else-to_shapes-shapes+then-to-count w ↦ few_numbers _ _ _ _ (omega (arith, n, w.if-to-count.true))
     ] in
-    let h = refused_so _ _ _ _ _ 8 0 (no_room _ _ _ _ _ _ (path_opens 512 _ _ _ f.0) f.1 f.2 r) in
-    record { answer = h.0; shapes = h.1; anchors = h.2 }
+    let h = refused_so _ _ _ _ _ _ (no_room _ _ _ _ _ _ (path_opens 512 _ _ _ f.0) f.1 f.2 r) in
+    record { answer = rw c.at.ensures h.0; shapes = h.1; anchors = h.2 }
 
 pub map_anchors-requires : goal.map_anchors-requires
 map_anchors-requires c =
@@ -51,7 +50,7 @@ returns c =
     let f = c.if-not-all_but_room.ensures tt in
     let h = written _ _ _ _ _ _ (path_opens 512 _ _ _ f.0) f.1 f.2 (room (length a.shapes.now) (total a.shapes.now) a.to_shapes.now a.to.now (omega (arith, c.if-to_shapes-shapes.false)) (omega (arith, n, c.if-to-count.false))) in
     record {
-      answer = ap (Accepted (length a.shapes.now)) n ∙ h.0;
+      answer = rw n h.0;
       shapes = c.copy.ensures 0 ∙ h.1;
       anchors = c.map_anchors.ensures ∙ ap (λ k. overwrite (k * 6) (anchor_numbers (mapped_at a.m a.anchors.now)) a.to.now) n ∙ h.2;
     }
