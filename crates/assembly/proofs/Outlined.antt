@@ -1,12 +1,14 @@
 -- The outline of a path: how many anchors it has, that it turns on the places alone, and that its words and anchors are a path. Assumes nothing.
 use mathlib.Core.Path.{◌≡◌, refl, ap, ap₂, ◌∙◌}
-use mathlib.Core.Bool.{Bool, true, false, cond}
+use mathlib.Core.Bool.{Bool, true, false, cond, ◌&&◌}
 use mathlib.Core.List.{List, [], ◌∷◌, ◌++◌}
 use Prim.Native.Nat.{ℕ, zero, suc, ◌+◌, ◌*◌, ◌≤◌, ◌<◌}
-use native.Mathlib.Nat.{le_refl}
+use native.Mathlib.Nat.{le_refl, add-zero}
 use native.Mathlib.Numerals.{add-one}
 use native.Mathlib.Omega.{arith}
-use lib.ListN.{length, take, length-append}
+use lib.Dec.{leb, ltb}
+use lib.Ieee.{Float}
+use lib.ListN.{length, take, get_or, length-append}
 use lib.Seq.{length-take-le, get_or-take}
 use borrow.Author.Tests.{le-leb, lt-leb}
 use Rattle.views.specs.View.{tabulate, overwrite}
@@ -16,10 +18,12 @@ use Rattle.views.proofs.Searches.{count_none, count_add}
 use Rattle.path.specs.Shape.{count_of, closed_of, total, word_at, word_of, start}
 use Rattle.path.proofs.Shapes.{total-next, total_in, total-end}
 use Rattle.path.specs.declared.anchor.Anchor.{Anchor}
+use Rattle.path.specs.Flat.{anchor_at}
 use Rattle.cut.specs.declared.places.Place.{Place}
+use Rattle.cut.specs.declared.subpath.Sub.{Sub}
 use Rattle.cut.specs.Outline.{joined, anchors_at, held_back, assembled}
 use Rattle.cut.proofs.Outlines.{assembled-length, assembled-same}
-use Rattle.assembly.specs.Assembled.{subpath_outline, outline_up_to, outline_of, outline_shapes, outline_words}
+use Rattle.assembly.specs.Assembled.{place_read, places_from, subpath_outline, outline_up_to, outline_of, outline_shapes, outline_words}
 
 -- ---- counts
 
@@ -41,9 +45,22 @@ pub subpath_most : (n : ℕ) (c : Bool) (f : ℕ → Place) → length (joined (
 unfolding assembled
 subpath_most n c f = omega (arith, length-append (joined (anchors_at c f) n) (held_back n c f), assembled_most n c f)
 
+-- what is held back, by the test of whether anything is
+pub held_is : (numbers : List Float) (flags : List ℕ) (sub : Sub) (held : Bool) → held ≡ (sub.closed && (ltb 0 sub.n && leb 2147483648 (get_or flags sub.first 0)))
+    → held_back sub.n sub.closed (places_from numbers flags sub.first) ≡ cond held (anchor_at numbers (2 * sub.first) ∷ []) []
+unfolding held_back place_read
+held_is numbers flags sub held e = rw (add-zero, e)
+
 pub joined-next : (g : ℕ → List Anchor) (n : ℕ) → joined g (n + 1) ≡ joined g n ++ g n
 unfolding joined
 joined-next g n = rw (add-one n)
+
+-- the outline of subpath s, by its place, count and closedness
+pub subpath_is : (shapes : List ℕ) (numbers : List Float) (flags : List ℕ) (s : ℕ) (sub : Sub) →
+    sub.first ≡ start shapes s → sub.n ≡ count_of (word_at shapes s) → sub.closed ≡ closed_of (word_at shapes s)
+    → assembled sub.n sub.closed (places_from numbers flags sub.first) ≡ subpath_outline shapes (place_read numbers flags) s
+unfolding subpath_outline
+subpath_is shapes numbers flags s sub first n closed = rw (first, n, closed)
 
 pub outline-next : (shapes : List ℕ) (f : ℕ → Place) (m : ℕ) → outline_up_to shapes f (m + 1) ≡ outline_up_to shapes f m ++ subpath_outline shapes f m
 unfolding outline_up_to

@@ -52,6 +52,7 @@ pub fn sample(c: [P; 4], n: usize, out: &mut [f64]) -> usize
     ensures points { out.new ≡ overwrite (2 * sample_count c n) (coordinates (step_at c (steps c n))) out.old }
 {
     let m = steps(c, n);
+    // Kept: by index, since a proof learns only the length of what `chunks_exact_mut` leaves; and two numbers a point, as the C interface has them.
     for k in 0..m + 1 {
         let p = step_at(c, m, k);
         out[2 * k] = p.x;

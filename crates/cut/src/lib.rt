@@ -6,6 +6,6 @@ mod places;
 mod rows;
 mod subpath;
 
-pub use places::{Place, Trim};
+pub use places::{CUT_FLAG, Place, Trim};
 pub use rows::Row;
 pub use subpath::{Indices, Sub, Window, arrives, corner_at, leaves, near, span};

@@ -64,6 +64,7 @@ pub fn near(k: usize, n: usize, closed: bool, i: usize, j: usize) -> bool
 }
 
 // The indices from `from` to below `to`.
+// Kept: a type of its own and no `Range`, since what `span` promises is stated of it.
 #[derive(Clone, Copy, Debug, PartialEq, Eq, Hash)]
 pub struct Indices {
     pub from: usize,

@@ -150,7 +150,7 @@ impl Seen {
         match word.kind {
             Kind::Head => self.head = word.payload,
             Kind::Subpath => {
-                self.shape = word.payload * 2147483648;
+                self.shape = word.payload << 31;
                 self.subpaths += 1;
             }
             Kind::X => {

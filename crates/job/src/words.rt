@@ -28,6 +28,7 @@ pub fn number(payload: u32) -> f64
     requires { payload ≤ 268435456 }
     ensures { result ≡ number payload }
 {
+    // Kept: by halves, since 2^28, which the contract allows, is -0.0, and no signed whole number is that.
     if payload < 134217728 {
         payload as f64 / 1024.0
     } else {

@@ -40,6 +40,7 @@ pub fn find_corners(anchors: &[f64], radii: &[f64], sub: Sub, w: Window, rows: &
     ensures rows { (kind : ℕ → CornerKind) → HoldsRows (view_of (anchor_at anchors.now) (entry radii.now) kind 128 sub) (w.reach + 2) w.at rows.new }
 {
     let there = span(w.reach + 2, sub.n, sub.closed, w.at);
+    // Kept: by index, which `near` tests and at which the row is written.
     for i in there.from..there.to {
         if !near(w.reach + 2, sub.n, sub.closed, w.at, i) {
             continue;

@@ -85,6 +85,7 @@ pub fn make_cuts(
     let mut table_u = [0.0f64; 129];
     let mut table_v = [0.0f64; 129];
     let there = span(w.reach + 1, sub.n, sub.closed, w.at);
+    // Kept: by index, which `near` tests and at which the cut is written.
     for i in there.from..there.to {
         if !near(w.reach + 1, sub.n, sub.closed, w.at, i) {
             continue;

@@ -18,7 +18,7 @@ impl Anchor {
         ensures { result ≡ without_handles p }
     {
         Anchor {
-            p: p,
+            p,
             h_in: p,
             h_out: p,
         }

@@ -34,6 +34,7 @@ pub fn put_anchor(out: &mut [f64], k: usize, a: Anchor)
 }
 
 // The curve from anchor a of the n of a subpath, the first of which is at place k, to the next.
+// Kept: k and n beside the list, which is the whole path's.
 pub fn curve_at(anchors: &[f64], k: usize, n: usize, a: usize) -> [P; 4]
     requires { (a < n) × (k + n ≤ 1024) × ((k + n) * 6 ≤ length anchors.now) }
     ensures { result ≡ curve_of anchors.now k n a }

@@ -33,6 +33,7 @@ fn anchor_in_limit(anchors: &[f64], k: usize) -> bool
     requires { (k < 1024) × (k * 6 + 6 ≤ length anchors.now) }
     ensures { result ≡ anchor_in anchors.now k }
 {
+    // Kept: a place times six, since the C interface's flat lists have six numbers an anchor.
     let b = k * 6;
     anchors[b..b + 6].iter().all(|x| real::in_limit(*x))
 }
@@ -58,6 +59,7 @@ fn place_in_limit(anchors: &[f64], radii: &[f64], k: usize) -> bool
 }
 
 // Of a drawing: a radius counts at its anchor's place, after the anchor's numbers.
+// Kept: beside `first_bad_anchor`, since all that both share is the line of the search; one function that is handed the test is no shorter.
 pub fn first_bad_place(shapes: &[u32], anchors: &[f64], radii: &[f64]) -> Option<usize>
     requires { (length shapes.now ≤ 32) × (total shapes.now ≤ 1024) × (total shapes.now * 6 ≤ length anchors.now) × (total shapes.now ≤ length radii.now) }
     ensures { result ≡ first_bad (place_in anchors.now radii.now) (total shapes.now) }

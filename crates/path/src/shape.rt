@@ -2,16 +2,19 @@
 ghost use Rattle.std.specs.Prelude.{◌≡◌, ◌≤◌, ◌<◌, length};
 ghost use Rattle.path.specs.Shape.{count_of, closed_of, word_of, total, start, has_anchor, is_segment, prev, next, sized_of};
 
+// The top bit of a word.
+const CLOSED: u32 = 0x8000_0000;
+
 pub fn count_of(word: u32) -> usize
     ensures { result ≡ count_of word }
 {
-    (word % 2147483648) as usize
+    (word % CLOSED) as usize
 }
 
 pub fn closed_of(word: u32) -> bool
     ensures { result ≡ closed_of word }
 {
-    word >= 2147483648
+    word >= CLOSED
 }
 
 // The shape word of a subpath of n anchors.
@@ -19,11 +22,7 @@ pub fn word(n: usize, closed: bool) -> u32
     requires { n ≤ 1024 }
     ensures { result ≡ word_of n closed }
 {
-    if closed {
-        n as u32 + 2147483648
-    } else {
-        n as u32
-    }
+    if closed { n as u32 + CLOSED } else { n as u32 }
 }
 
 // An anchor by its subpath and its index there; also the segment that starts at it.

@@ -11,7 +11,7 @@ ghost use Rattle.cut.specs.Rows.{flag_of, HoldsCuts, HoldsEnds};
 ghost use Rattle.cut.specs.Recut.{put_place, recut_numbers, recut_flags};
 
 use corner::Cut;
-use cut::{Place, Sub, Trim, Window, arrives, leaves, near, span};
+use cut::{CUT_FLAG, Place, Sub, Trim, Window, arrives, leaves, near, span};
 use geom::P;
 use path::Anchor;
 
@@ -52,6 +52,7 @@ fn trimmed_at(anchors: &[f64], sub: Sub, cuts: &[Option<Cut>], j: usize) -> Trim
 }
 
 // The handles into and out of index i.
+// Kept: two functions, since one reads the segment before i and the other the one from i; one over a side would choose at each step.
 fn handle_in(anchors: &[f64], sub: Sub, cuts: &[Option<Cut>], i: usize) -> P
     requires { Fits sub (length anchors.now) × (i < sub.n) × (sub.n ≤ length cuts.now) }
     ensures { (radius : ℕ → Float) (kind : ℕ → CornerKind) → let v = view_of (anchor_at anchors.now) radius kind 128 sub in (arrives v i ≡ true → HoldsEnds v (prev sub.n i) cuts.now) → result ≡ in_at v i }
@@ -127,7 +128,7 @@ pub fn put_place(numbers: &mut [f64], k: usize, q: Place)
 fn flag_of(cut: bool) -> u32
     ensures { result ≡ flag_of cut }
 {
-    if cut { 2147483648 } else { 0 }
+    if cut { CUT_FLAG } else { 0 }
 }
 
 // Writes each place within reach, and its flag. The answer is how many.
@@ -147,6 +148,7 @@ pub fn lay_places(
 {
     let mut count: usize = 0;
     let there = span(w.reach, sub.n, sub.closed, w.at);
+    // Kept: by index, at which two lists are written; the count is of the indices that `near` lets through.
     for i in there.from..there.to {
         if !near(w.reach, sub.n, sub.closed, w.at, i) {
             continue;

@@ -1,41 +1,24 @@
 -- Sums of floats that are not negative: fl(x + y) is no smaller than x, and what is below a bound stays below it under an order. Any format. Assumes nothing.
 use mathlib.Core.Path.{◌≡◌, refl, sym, ap, ◌∙◌, subst}
-use mathlib.Core.Logic.{◌⊎◌, inl, inr, ⊎_elim}
-use mathlib.Core.Bool.{Bool, true, false, not, ◌&&◌, ◌||◌, cond, beq}
+use mathlib.Core.Logic.{⊎_elim}
+use mathlib.Core.Bool.{Bool, true, false, not, ◌&&◌}
 use Prim.Native.Nat.{ℕ, zero, suc, ◌+◌, ◌-◌, ◌*◌, ◌%◌, ◌^◌, ◌≤◌, ◌<◌}
-use native.Mathlib.Nat.{le_trans, le_of_eq, le_of_lt, le_refl, lt_of_lt_of_le, lt_of_le_of_lt, not-le_of_lt, mul_comm, mul_assoc, mul_left_comm, mul_right_comm, mul-one, zero-mul, mul-le-mul_right, mul-lt-mul_of_pos_right, mul-pos, le-add_right, lt_of_mul-lt-mul_right}
+use native.Mathlib.Nat.{le_trans, le_of_eq, le_refl, lt_of_lt_of_le, lt_of_le_of_lt, not-le_of_lt, mul_comm, mul_assoc, mul_left_comm, mul-one, zero-mul, mul-le-mul_right, mul-lt-mul_of_pos_right, mul-pos, le-add_right}
 use native.Mathlib.Omega.{arith}
-use lib.Dec.{T, leb, ltb, eqb, leb→le, ltb→lt, lt→ltb, eqb→eq, lit<}
+use lib.Dec.{T, leb, ltb, eqb, leb→le, ltb→lt, lit<}
 use lib.Pow.{pow-add, pow_pos, pow-lt, pow_mono, shl_lt}
 use lib.IntN.{ℤ, pos, negsuc}
-use lib.Ieee.{Float, nan, inf, fin, Format, prec, emax, low, up, down, unlike, is_nan, odd, units, round, sum, add, mul, lt, le, fits}
-use lib.Ieee.Scale.{finite}
+use lib.Ieee.{Float, nan, inf, fin, Format, prec, emax, low, up, down, unlike, is_nan, round, sum, add, mul, lt, le, fits}
 use lib.Ieee.Fits.{reach, down_pos, and_l, and_r}
 use lib.Ieee.Digits.{back}
 use lib.Ieee.Exact.{HasValue, round_exact}
 use lib.Ieee.Order.{le_of_values, round_mono}
-use lib.Ieee.Positive.{through}
+use Rattle.std.proofs.lemmas.Float as floats
 use Rattle.root.specs.Sign.{nonneg}
+use Rattle.root.proofs.Monotone.{round-nonneg}
 use Rattle.views.proofs.Laws.{order}
 
 -- ---- the result's sign
-odd_nonneg : (d q k l : ℕ) → T (nonneg (odd d false q k l))
-unfolding odd
-odd_nonneg d zero k l = tt
-odd_nonneg d (suc q) k l = tt
-
-units_nonneg : (f : Format) (q k : ℕ) → T (nonneg (units f false q k))
-unfolding units
-units_nonneg f q k = go (ltb (q * 2 ^ k) (2 ^ (low f + suc (emax f))))
-  where
-    go : (b : Bool) → T (nonneg (cond b (odd (suc (prec f)) false q k (low f)) (inf false)))
-    go true = odd_nonneg (suc (prec f)) q k (low f)
-    go false = tt
-
-round-nonneg : (f : Format) (a b : ℕ) → T (nonneg (round f false a b))
-unfolding round
-round-nonneg f a b = units_nonneg f _ _
-
 pub add-nonneg : (f : Format) (x y : Float) → T (nonneg x) → T (nonneg y) → T (nonneg (add f x y))
 unfolding add sum
 add-nonneg f nan y p q = absurd p
@@ -52,72 +35,15 @@ add-nonneg f (fin false m e) (fin true n d) p q = absurd q
 add-nonneg f (fin false m e) (fin false n d) p q = round-nonneg f (m * up e * down d + n * up d * down e) (down e * down d)
 
 -- ---- the order of two that are finite and not negative is that of their fractions
-or_split : (a b : Bool) → T (a || b) → T a ⊎ T b
-or_split true b t = inl tt
-or_split false b t = inr t
-
-at_most : (a b : ℕ) → T (ltb a b || (eqb a b && true)) → a ≤ b
-at_most a b t = ⊎_elim (λ u. le_of_lt (ltb→lt a b u)) (λ u. le_of_eq (eqb→eq a b (and_l (eqb a b) true u))) (or_split (ltb a b) (eqb a b && true) t)
-
-le→fractions : (m : ℕ) (e : ℤ) (n : ℕ) (d : ℤ) → T (le (fin false m e) (fin false n d)) → m * up e * down d ≤ n * up d * down e
-unfolding le
-le→fractions m e n d h = at_most (m * up e * down d) (n * up d * down e) h
-
 pub fractions→le : (m : ℕ) (e : ℤ) (n : ℕ) (d : ℤ) → m * up e * down d ≤ n * up d * down e → T (le (fin false m e) (fin false n d))
 fractions→le m e n d h = le_of_values (fin false m e) (fin false n d) (m * up e) (down e) (n * up d) (down d) (down_pos e) (down_pos d) (refl, refl) (refl, refl) h
 
 pub le_trans_nonneg : (x y z : Float) → T (nonneg x) → T (nonneg y) → T (nonneg z) → T (le x y) → T (le y z) → T (le x z)
-unfolding le
-le_trans_nonneg nan y z p q r h k = absurd p
-le_trans_nonneg (inf true) y z p q r h k = absurd p
-le_trans_nonneg (fin true m e) y z p q r h k = absurd p
-le_trans_nonneg (inf false) nan z p q r h k = absurd q
-le_trans_nonneg (inf false) (inf true) z p q r h k = absurd q
-le_trans_nonneg (inf false) (inf false) z p q r h k = k
-le_trans_nonneg (inf false) (fin t n d) z p q r h k = absurd h
-le_trans_nonneg (fin false m e) nan z p q r h k = absurd q
-le_trans_nonneg (fin false m e) (inf true) z p q r h k = absurd q
-le_trans_nonneg (fin false m e) (inf false) nan p q r h k = absurd r
-le_trans_nonneg (fin false m e) (inf false) (inf true) p q r h k = absurd r
-le_trans_nonneg (fin false m e) (inf false) (inf false) p q r h k = tt
-le_trans_nonneg (fin false m e) (inf false) (fin t o g) p q r h k = absurd k
-le_trans_nonneg (fin false m e) (fin true n d) z p q r h k = absurd q
-le_trans_nonneg (fin false m e) (fin false n d) nan p q r h k = absurd r
-le_trans_nonneg (fin false m e) (fin false n d) (inf true) p q r h k = absurd r
-le_trans_nonneg (fin false m e) (fin false n d) (inf false) p q r h k = tt
-le_trans_nonneg (fin false m e) (fin false n d) (fin true o g) p q r h k = absurd r
-le_trans_nonneg (fin false m e) (fin false n d) (fin false o g) p q r h k =
-    fractions→le m e o g (through (m * up e) (n * up d) (o * up g) (down e) (down d) (down g) (down_pos d) (le→fractions m e n d h) (le→fractions n d o g k))
+le_trans_nonneg x y z p q r h k = floats.le_trans x y z h k
 
 -- what is at most y is below whatever y is below
-lt-cross : (x y z p q r : ℕ) → 0 < p → x * q ≤ y * p → y * r < z * q → x * r < z * p
-lt-cross x y z p q r P h k =
-    lt_of_mul-lt-mul_right q
-    (lt_of_le_of_lt (le_of_eq (mul_right_comm x r q))
-    (lt_of_le_of_lt (mul-le-mul_right r h)
-    (lt_of_le_of_lt (le_of_eq (mul_right_comm y p r)) (lt_of_lt_of_le (mul-lt-mul_of_pos_right k P) (le_of_eq (mul_right_comm z q p))))))
-
 pub below_trans : (x y s : Float) → T (nonneg x) → T (nonneg y) → T (le x y) → T (lt y s) → T (lt x s)
-unfolding le lt
-below_trans nan y s p q h k = absurd p
-below_trans (inf true) y s p q h k = absurd p
-below_trans (fin true m e) y s p q h k = absurd p
-below_trans (inf false) nan s p q h k = absurd q
-below_trans (inf false) (inf true) s p q h k = absurd q
-below_trans (inf false) (inf false) s p q h k = k
-below_trans (inf false) (fin t n d) s p q h k = absurd h
-below_trans (fin false m e) nan s p q h k = absurd q
-below_trans (fin false m e) (inf true) s p q h k = absurd q
-below_trans (fin false m e) (inf false) nan p q h k = absurd k
-below_trans (fin false m e) (inf false) (inf t) p q h k = absurd k
-below_trans (fin false m e) (inf false) (fin t o g) p q h k = absurd k
-below_trans (fin false m e) (fin true n d) s p q h k = absurd q
-below_trans (fin false m e) (fin false n d) nan p q h k = absurd k
-below_trans (fin false m e) (fin false n d) (inf t) p q h k = k
-below_trans (fin false m e) (fin false n d) (fin true o g) p q h k = absurd k
-below_trans (fin false m e) (fin false n d) (fin false o g) p q h k =
-    lt→ltb (m * up e * down g) (o * up g * down e)
-    (lt-cross (m * up e) (n * up d) (o * up g) (down e) (down d) (down g) (down_pos e) (le→fractions m e n d h) (ltb→lt (n * up d * down g) (o * up g * down d) k))
+below_trans x y s p q h k = floats.lt_of_le_of_lt x y s h k
 
 -- ---- rounding changes nothing at a value that fits
 pow-back : (i j : ℕ) → 2 ^ i ≤ 2 ^ j → i ≤ j
@@ -190,20 +116,7 @@ add_grows f (fin false m e) (fin false n d) t p q =
     (rounded f m e t)
     (round_mono f (m * up e) (down e) (m * up e * down d + n * up d * down e) (down e * down d) (down_pos e) (mul-pos (down_pos e) (down_pos d)) (more (m * up e) (n * up d * down e) (down e) (down d)))
 
--- ---- what keeps a number from being a NaN, and a square from being negative
-units_not_nan : (f : Format) (s : Bool) (q k : ℕ) → T (not (is_nan (units f s q k)))
-unfolding units odd is_nan
-units_not_nan f s q k = go (ltb (q * 2 ^ k) (2 ^ (low f + suc (emax f)))) q
-  where
-    go : (t : Bool) (q : ℕ) → T (not (is_nan (cond t (odd (suc (prec f)) s q k (low f)) (inf s))))
-    go true zero = tt
-    go true (suc q) = tt
-    go false q = tt
-
-round-not_nan : (f : Format) (s : Bool) (a b : ℕ) → T (not (is_nan (round f s a b)))
-unfolding round
-round-not_nan f s a b = units_not_nan f s _ _
-
+-- ---- what keeps a square from being negative
 unlike_self : (s : Bool) → unlike s s ≡ false
 unlike_self true = refl
 unlike_self false = refl
@@ -213,18 +126,3 @@ unfolding mul is_nan
 square-nonneg f nan p = absurd p
 square-nonneg f (inf s) p = rw (unlike_self s) tt
 square-nonneg f (fin s m e) p = rw (unlike_self s) (round-nonneg f (m * up e * (m * up e)) (down e * down e))
-
-both : (f : Format) (b c : Bool) (x y z : Float) → T (not (is_nan x)) → T (not (is_nan y)) → T (not (is_nan z)) → T (not (is_nan (cond b x (cond c y z))))
-both f true c x y z p q r = p
-both f false true x y z p q r = q
-both f false false x y z p q r = r
-
--- a sum of two finite numbers is no NaN
-pub add-not_nan : (f : Format) (x y : Float) → T (finite x) → T (finite y) → T (not (is_nan (add f x y)))
-unfolding add sum
-add-not_nan f nan y p q = absurd p
-add-not_nan f (inf s) y p q = absurd p
-add-not_nan f (fin s m e) nan p q = absurd q
-add-not_nan f (fin s m e) (inf t) p q = absurd q
-add-not_nan f (fin s m e) (fin t n d) p q =
-    both f (beq s t) (ltb (m * up e * down d) (n * up d * down e)) _ _ _ (round-not_nan f s _ _) (round-not_nan f t _ _) (round-not_nan f _ _ _)

@@ -1,5 +1,5 @@
-// What Rattle's f64 lacks: document 01's stand-ins for Rust's methods, and its limit on every number of a drawing.
-#![tactic(auto)]
+// Document 01's stand-ins for Rust's methods on f64, and its limit on every number of a drawing.
+#![tactic(auto, unfolding(crate::specs::StandIns::max, crate::specs::StandIns::min, crate::specs::StandIns::clamp))]
 
 ghost use Rattle.std.specs.Prelude.{◌≡◌};
 ghost use Rattle.real.specs.StandIns.{max, min, clamp, abs};
@@ -7,6 +7,7 @@ ghost use Rattle.real.specs.Limit.{in_limit};
 ghost use Rattle.real.specs.Finite.{is_finite};
 
 // a where b < a, else b: a NaN on either side gives b.
+// Kept: f64::max gives the other number where one is a NaN, and does not say which of two equal ones it gives.
 pub fn max(a: f64, b: f64) -> f64
     ensures { result ≡ max a b }
 {
@@ -14,6 +15,7 @@ pub fn max(a: f64, b: f64) -> f64
 }
 
 // a where a < b, else b: a NaN on either side gives b.
+// Kept: f64::min gives the other number where one is a NaN, and does not say which of two equal ones it gives.
 pub fn min(a: f64, b: f64) -> f64
     ensures { result ≡ min a b }
 {
@@ -21,6 +23,7 @@ pub fn min(a: f64, b: f64) -> f64
 }
 
 // low where x is below it, high where x is above that, else x, a NaN too.
+// Kept: f64::clamp asks of its caller that low <= high, and this asks nothing.
 pub fn clamp(x: f64, low: f64, high: f64) -> f64
     ensures { result ≡ clamp x low high }
 {
@@ -37,13 +40,7 @@ pub fn clamp(x: f64, low: f64, high: f64) -> f64
 pub fn abs(x: f64) -> f64
     ensures { result ≡ abs x }
 {
-    if x < 0.0 {
-        return -x;
-    }
-    if x == 0.0 {
-        return 0.0;
-    }
-    x
+    x.abs()
 }
 
 // Whether x is finite and of magnitude at most 131,072.
@@ -57,7 +54,5 @@ pub fn in_limit(x: f64) -> bool
 pub fn is_finite(x: f64) -> bool
     ensures { result ≡ is_finite x }
 {
-    let low = f64::from_bits(0xfff0_0000_0000_0000);
-    let high = f64::from_bits(0x7ff0_0000_0000_0000);
-    low < x && x < high
+    x.is_finite()
 }

@@ -1,9 +1,9 @@
 -- A root of what is not negative is not negative, and a larger number's root is no smaller: zeros, subnormal numbers and the infinity included. Assumes nothing.
-use Rattle.std.proofs.Common.{ℕ, zero, suc, ◌*◌, ◌/◌, ◌^◌, ◌<◌, ◌≤◌, Bool, true, false, cond, T, ltb, ℤ, sym, refl, ap, ◌∙◌, subst, zero-le, le_trans, le_of_eq, mul-le-mul_right, zero-lt-suc, mul-le-mul_left, mul-pos, zero-mul, mul_right_comm, lt→ltb, pow_pos}
-use lib.Ieee.{Float, nan, inf, fin, binary64, up, down, odd, units, le}
-use lib.Ieee.Fits.{round_is, down_pos}
+use Rattle.std.proofs.Common.{ℕ, zero, suc, ◌+◌, ◌*◌, ◌/◌, ◌^◌, ◌<◌, ◌≤◌, Bool, true, false, cond, T, ltb, ℤ, refl, ap, ◌∙◌, zero-le, le_trans, le_of_eq, mul-le-mul_right, zero-lt-suc, mul-le-mul_left, mul-pos, zero-mul, mul_right_comm, lt→ltb, pow_pos}
+use lib.Ieee.{Float, nan, inf, fin, Format, prec, emax, low, binary64, up, down, odd, units, round, le}
+use lib.Ieee.Fits.{down_pos}
 use lib.Ieee.Nearest.{div_mono}
-use lib.Ieee.Order.{kept, drop, le_of_values, round_mono}
+use lib.Ieee.Order.{le_of_values, round_mono}
 use lib.Ieee.Positive.{le→cross, above_of_le}
 use Rattle.root.specs.Root.{isqrt, twice, rooted, root_of}
 use Rattle.root.specs.Sign.{nonneg}
@@ -16,21 +16,21 @@ unfolding odd
 odd_nonneg d zero k l = tt
 odd_nonneg d (suc q) k l = tt
 
-units_nonneg : (q k : ℕ) → T (nonneg (units binary64 false q k))
+units_nonneg : (f : Format) (q k : ℕ) → T (nonneg (units f false q k))
 unfolding units
-units_nonneg q k = go (ltb (q * 2 ^ k) (2 ^ 2098))
+units_nonneg f q k = go (ltb (q * 2 ^ k) (2 ^ (low f + suc (emax f))))
   where
-    go : (b : Bool) → T (nonneg (cond b (odd 54 false q k 1074) (inf false)))
-    go true = odd_nonneg 54 q k 1074
+    go : (b : Bool) → T (nonneg (cond b (odd (suc (prec f)) false q k (low f)) (inf false)))
+    go true = odd_nonneg (suc (prec f)) q k (low f)
     go false = tt
+
+pub round-nonneg : (f : Format) (a b : ℕ) → T (nonneg (round f false a b))
+unfolding round
+round-nonneg f a b = units_nonneg f _ _
 
 pub rooted-nonneg : (n : ℕ) → T (nonneg (rooted n))
 unfolding rooted
-rooted-nonneg n =
-    let z = twice (4 * n) (isqrt (4 * n)) in
-    let a = z * 2 ^ 1074 in
-    let b = 4 * 2 ^ 1074 in
-    subst (λ (x : Float). T (nonneg x)) (sym (round_is binary64 false z b)) (units_nonneg (kept 53 a b) (drop 53 a b))
+rooted-nonneg n = round-nonneg binary64 (twice (4 * n) (isqrt (4 * n))) (4 * 2 ^ 1074)
 
 pub root-nonneg : (x : Float) → T (nonneg x) → T (nonneg (root_of x))
 unfolding root_of

@@ -1,10 +1,10 @@
 -- Roots of whole numbers: squares, a turn of the digit by digit loop, and the definition's `isqrt` and `twice`. Nothing here is about floats. Assumes nothing.
-use Rattle.std.proofs.Common.{◌≡◌, ℕ, zero, suc, ◌+◌, ◌-◌, ◌*◌, ◌/◌, ◌%◌, ◌^◌, ◌<◌, ◌≤◌, Bool, true, false, cond, not, T, eqb, leb, ◌⊎◌, sym, refl, ap, ◌∙◌, subst, inl, inr, le_trans, le_of_eq, lt_of_lt_of_le, le_of_suc-le-suc, lt_of_le_of_lt, le_of_lt, add_assoc, mul_comm, add-mul, mul-le-mul, add_comm, le_antisymm, lt_of_mul-lt-mul_right, mul-lt-mul_of_pos_right, lt_of_not-le, mul-add, not-le_of_lt, add-one, arith, lit≤, eqb→eq, leb→le, T_not}
+use Rattle.std.proofs.Common.{◌≡◌, ℕ, zero, suc, ◌+◌, ◌-◌, ◌*◌, ◌/◌, ◌%◌, ◌^◌, ◌<◌, ◌≤◌, Bool, true, false, cond, not, T, leb, ◌⊎◌, sym, refl, ap, ◌∙◌, subst, inl, inr, le_trans, le_of_eq, lt_of_lt_of_le, le_of_suc-le-suc, lt_of_le_of_lt, le_of_lt, add_assoc, mul_comm, add-mul, mul-le-mul, add_comm, le_antisymm, lt_of_mul-lt-mul_right, mul-lt-mul_of_pos_right, lt_of_not-le, mul-add, not-le_of_lt, add-one, arith, lit≤, leb→le}
 use native.Mathlib.Nat.{add_left_comm, two-pow-succ, pow-succ', pow-le-pow_left, mul-mul-mul_comm}
+use Rattle.std.proofs.lemmas.Bool.Decides.{nat_tests}
 use lib.Dec.{nleb→lt}
 use lib.Ieee.{size}
 use lib.Ieee.Digits.{size-lt}
-use lib.Ieee.Fits.{eq→eqb}
 use Rattle.root.specs.Root.{digit, isqrt_by, isqrt, twice}
 use Rattle.root.specs.Nearest.{Nearest}
 
@@ -135,12 +135,7 @@ nearest-of_floor n s q P f e = go (s % 2) refl
 
 pub twice-is : (n s : ℕ) → ((twice n s ≡ 2 * s) × (s * s ≡ n)) ⊎ ((twice n s ≡ 2 * s + 1) × (s * s ≡ n → ⊥))
 unfolding twice
-twice-is n s = go (eqb (s * s) n) (eqb→eq (s * s) n) (T_not (eqb (s * s) n))
-  where
-    go : (b : Bool) → (T b → s * s ≡ n) → (T (not b) → T (eqb (s * s) n) → ⊥)
-        → ((cond b (2 * s) (2 * s + 1) ≡ 2 * s) × (s * s ≡ n)) ⊎ ((cond b (2 * s) (2 * s + 1) ≡ 2 * s + 1) × (s * s ≡ n → ⊥))
-    go true h k = inl (refl, h tt)
-    go false h k = inr (refl, λ e. k tt (eq→eqb e))
+twice-is n s = grind (arith, nat_tests)
 
 module _ (n s : ℕ) (f : Floor n s) where
   pub twice-from : (c : ℕ) → 2 * c ≤ twice n s → c * c ≤ n

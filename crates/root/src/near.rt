@@ -37,10 +37,10 @@ fn is_root(b: u64, h: u64) -> bool
 pub fn root_near(x: f64, hint: f64) -> f64
     ensures { result ≡ root_of x }
 {
-    if x != x {
+    if x.is_nan() {
         return x;
     }
-    if hint != hint {
+    if hint.is_nan() {
         return root(x);
     }
     if is_root(f64::to_bits(x), f64::to_bits(hint)) {

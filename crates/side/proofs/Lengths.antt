@@ -1,5 +1,5 @@
 -- Lengths along a curve, chord by chord, and the chord in which one falls. Assumes nothing.
-use mathlib.Core.Path.{◌≡◌, refl, ap, ap₂, ◌∙◌}
+use mathlib.Core.Path.{◌≡◌, refl, ap, ap₂, sym, ◌∙◌}
 use mathlib.Core.Bool.{false}
 use mathlib.Core.List.{List}
 use mathlib.Core.Logic.{⊎_elim}
@@ -23,10 +23,11 @@ use Rattle.cubic.proofs.Chords.{chord_first}
 use Rattle.side.specs.declared.side.Side.{Side}
 use Rattle.side.specs.Side.{is_straight_side, chord_square, arclen_table, length_of, chord_of, chord_at}
 
--- one chord more
-pub length-next : (c : List P) (n k : ℕ) → running (chord c n) (k + 1) ≡ running (chord c n) k ⊕ dist (step_at c n k) (step_at c n (k + 1))
+-- one chord more, from p to q
+pub length_next : (c : List P) (n k : ℕ) {p q : P} {len d : Float} →
+    p ≡ step_at c n k → q ≡ step_at c n (k + 1) → len ≡ running (chord c n) k → d ≡ dist p q → len ⊕ d ≡ running (chord c n) (k + 1)
 unfolding running chord
-length-next c n k = ap (running (chord c n)) (add-one k)
+length_next c n k from to so_far here = ap₂ ◌⊕◌ so_far (here ∙ ap₂ dist from to) ∙ sym (ap (running (chord c n)) (add-one k))
 
 -- a chord is the root of its square
 pub chord-root : (c : List P) (n k : ℕ) → root_of (chord_square c n k) ≡ chord c n k

@@ -16,6 +16,8 @@ use geom::P;
 const CHORDS: usize = 128;
 
 // The sum of all chords. Each point of the curve serves two of them.
+// Kept: a loop of its own beside `first_chords`, since it alone makes no test of its sums; an iterator of chords would have to carry the last point.
+#[tactic(auto, using(crate::proofs::Lengths::length_next), unfolding(real::specs::Sums::running))]
 pub fn curve_length(c: [P; 4]) -> f64
     ensures { result ≡ running (chord c 128) 128 }
 {
@@ -23,7 +25,7 @@ pub fn curve_length(c: [P; 4]) -> f64
     let mut p = cubic::step_at(c, CHORDS, 0);
     for k in 0..CHORDS {
         let q = cubic::step_at(c, CHORDS, k + 1);
-        len = len + p.dist(q);
+        len += p.dist(q);
         p = q;
     }
     len
@@ -31,6 +33,7 @@ pub fn curve_length(c: [P; 4]) -> f64
 
 // What the first chords of a curve in limit add up to, as far as the first sum above 1e-9: no sum is below the one before it, so that
 // one tells whether the length is above 1e-9.
+#[tactic(auto, using(crate::proofs::Lengths::length_next))]
 pub fn first_chords(c: [P; 4]) -> f64
     requires { curve_in c ≡ true }
     ensures { long_enough result ≡ long_enough (running (chord c 128) 128) }
@@ -39,7 +42,7 @@ pub fn first_chords(c: [P; 4]) -> f64
     let mut p = cubic::step_at(c, CHORDS, 0);
     for k in 0..CHORDS {
         let q = cubic::step_at(c, CHORDS, k + 1);
-        so_far = so_far + p.dist(q);
+        so_far += p.dist(q);
         if 1e-9 < so_far {
             return so_far;
         }
@@ -79,8 +82,9 @@ fn add_roots(table: &mut [f64])
 {
     let mut sum = 0.0;
     table[0] = sum;
+    // Kept: by index, since of what `iter_mut` has written a proof knows only how long it is.
     for k in 0..CHORDS {
-        sum = sum + root::root(table[k + 1]);
+        sum += root::root(table[k + 1]);
         table[k + 1] = sum;
     }
 }

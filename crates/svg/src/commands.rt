@@ -31,22 +31,32 @@ fn put_point(text: &mut Text<'_>, p: P)
     text.write_num(p.y);
 }
 
+// Puts a command to a point: its letter and the point.
+fn put_command(text: &mut Text<'_>, letter: u8, p: P)
+    requires { PointIn p }
+    ensures text { Adds text.old (cond (eqb text.old.at 0) (letter ∷ []) (32 ∷ letter ∷ []) ++ (float_text p.x ++ 32 ∷ float_text p.y)) text.new }
+    ensures room { text.new.at ≤ text.old.at + 25 }
+{
+    put_letter(text, letter);
+    put_point(text, p);
+}
+
+#[tactic(auto, using(crate::proofs::Glues::glue_move))]
 pub fn put_move(text: &mut Text<'_>, p: P)
     requires { PointIn p }
     ensures text { Adds text.old (glue text.old.at (move_to p ∷ [])) text.new }
     ensures room { text.new.at ≤ text.old.at + 25 }
 {
-    put_letter(text, b'M');
-    put_point(text, p);
+    put_command(text, b'M', p);
 }
 
+#[tactic(auto, using(crate::proofs::Glues::glue_line))]
 pub fn put_line(text: &mut Text<'_>, p: P)
     requires { PointIn p }
     ensures text { Adds text.old (glue text.old.at (line_to p ∷ [])) text.new }
     ensures room { text.new.at ≤ text.old.at + 25 }
 {
-    put_letter(text, b'L');
-    put_point(text, p);
+    put_command(text, b'L', p);
 }
 
 pub fn put_curve(text: &mut Text<'_>, a: P, b: P, p: P)
@@ -54,8 +64,7 @@ pub fn put_curve(text: &mut Text<'_>, a: P, b: P, p: P)
     ensures text { Adds text.old (glue text.old.at (curve_to a b p ∷ [])) text.new }
     ensures room { text.new.at ≤ text.old.at + 73 }
 {
-    put_letter(text, b'C');
-    put_point(text, a);
+    put_command(text, b'C', a);
     text.put(b' ');
     put_point(text, b);
     text.put(b' ');

@@ -35,6 +35,7 @@ fn put_segment(text: &mut Text<'_>, a: Anchor, b: Anchor)
 }
 
 // Puts what closes a subpath whose last anchor is m after k: a curve where the way back is not straight, and Z.
+// Kept: a place and a count beside the list, here and below, since the list is the whole path's.
 fn put_closing(text: &mut Text<'_>, anchors: &[f64], k: usize, m: usize)
     requires { (Placed anchors.now k) × (Placed anchors.now (k + m)) × (k + m < 1024) }
     ensures text { Adds text.old (glue text.old.at (closing (anchor_at anchors.now) k m)) text.new }

@@ -1,0 +1,15 @@
+-- The method's finite numbers are the definition's.
+use Rattle.std.proofs.Common.{◌≡◌, refl, ◌∙◌}
+use Rattle.std.specs.Float.{float_is_finite}
+use lib.Ieee.{Float, nan, inf, fin}
+use Rattle.real.specs.Finite.{is_finite}
+use Rattle.real.proofs.is_finite.Goals as goal
+
+same : (x : Float) → float_is_finite x ≡ is_finite x
+unfolding float_is_finite is_finite
+same nan = refl
+same (inf s) = refl
+same (fin s m e) = refl
+
+pub returns : goal.returns
+returns c = c.is_finite.ensures.value ∙ same c.args.x
