@@ -72,6 +72,7 @@ fn assemble_subpath(numbers: &[f64], flags: &[u32], sub: Sub, to: &mut [f64], at
     ensures anchors { to.new ≡ put_all to.old at (assembled sub.n sub.closed (places_from numbers.now flags.now sub.first)) }
 {
     let mut next = at;
+    // Kept: by index, since a place is read at it in both lists, and it tells which place is the first.
     for i in 0..sub.n {
         next = put_anchors(numbers, flags, sub, i, to, next);
     }

@@ -1,5 +1,6 @@
 // The two anchors of a segment that is bent: the handles between them move, and the others may turn.
-ghost use Rattle.std.specs.Prelude.{◌≡◌};
+ghost use Rattle.std.specs.Prelude.{◌≡◌, ◌&&◌};
+ghost use Rattle.path.specs.Anchor.{is_smooth};
 ghost use Rattle.bend.specs.Bent.{pull, across, turned, bent_out, bent_in};
 
 use geom::P;
@@ -24,30 +25,33 @@ fn across(p: P, moved: P, other: P) -> P
     p - u * ((other - p).len() / u.len())
 }
 
-// The same where it is to turn.
-fn turned(turns: bool, p: P, moved: P, other: P) -> P
-    ensures { result ≡ turned turns p moved other }
+// The other handle of an anchor one of whose handles moved: it turns where a smooth anchor is to stay smooth.
+// Kept: `keep` as the bool that the call is given, handed on to this one test.
+fn beside(keep: bool, o: Anchor, moved: P, other: P) -> P
+    ensures { result ≡ turned (keep && is_smooth o) o.p moved other }
 {
-    if turns {
-        across(p, moved, other)
+    if keep && o.is_smooth() {
+        across(o.p, moved, other)
     } else {
         other
     }
 }
 
 // The anchor where the segment starts.
+// Kept: beside `bent_in`, since one function for both would have to be told which handle to read, and twice which to put.
 pub fn bent_out(v: P, keep: bool, o: Anchor) -> Anchor
     ensures { result ≡ bent_out v keep o }
 {
     let h_out = o.h_out + v;
     Anchor {
         p: o.p,
-        h_in: turned(keep && o.is_smooth(), o.p, h_out, o.h_in),
+        h_in: beside(keep, o, h_out, o.h_in),
         h_out,
     }
 }
 
 // The anchor where it ends.
+// Kept: beside `bent_out`, for the reason given there; `keep` is handed on to the one test in `beside`.
 pub fn bent_in(v: P, keep: bool, o: Anchor) -> Anchor
     ensures { result ≡ bent_in v keep o }
 {
@@ -55,6 +59,6 @@ pub fn bent_in(v: P, keep: bool, o: Anchor) -> Anchor
     Anchor {
         p: o.p,
         h_in,
-        h_out: turned(keep && o.is_smooth(), o.p, h_in, o.h_out),
+        h_out: beside(keep, o, h_in, o.h_out),
     }
 }

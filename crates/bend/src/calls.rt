@@ -2,7 +2,8 @@
 ghost use Rattle.std.specs.Prelude.{◌≡◌, true, ℕ, ◌*◌, ◌≤◌, ◌<◌, length};
 ghost use Rattle.path.specs.Shape.{count_of, word_at, total};
 ghost use Rattle.path.specs.Limit.{anchor_in};
-ghost use Rattle.call.specs.Answers.{outline_answer, anchors_left};
+ghost use Rattle.refusal.specs.Order.{answering};
+ghost use Rattle.call.specs.Answers.{anchors_left};
 ghost use Rattle.bend.specs.Edits.{has_bend, last_verdict, smooth_path, smooth_answer, smooth_left, bend_path, bend_answer, bend_left};
 
 use crate::bending::{bent_in, bent_out, pull};
@@ -28,28 +29,23 @@ pub fn auto_smooth(
     if !path::has_anchor(shapes, s, k) {
         return Err(Reason::Reference.at(0));
     }
-    smooth_known(shapes, anchors, s, k, count)
+    smooth_known(shapes, anchors, s, k)?;
+    Ok(Outline {
+        subpaths: shapes.len(),
+        anchors: count,
+    })
 }
 
 // The same of an anchor that there is, in a path that passed its tests.
 #[tactic(auto, using(path::proofs::Shapes::total_in))]
-fn smooth_known(
-    shapes: &[u32],
-    anchors: &mut [f64],
-    s: usize,
-    k: usize,
-    count: usize,
-) -> Result<Outline, Refusal>
-    requires { (length shapes.now ≤ 32) × (total shapes.now ≤ 512) × (total shapes.now * 6 ≤ length anchors.old) × (count ≡ total shapes.now) × (s < length shapes.now) × (k < count_of (word_at shapes.now s)) × ((q : ℕ) → q < total shapes.now → anchor_in anchors.old q ≡ true) }
-    ensures answer { result ≡ outline_answer (last_verdict (smooth_path shapes.now anchors.old s k)) (length shapes.now) (total shapes.now) }
+fn smooth_known(shapes: &[u32], anchors: &mut [f64], s: usize, k: usize) -> Result<(), Refusal>
+    requires { (length shapes.now ≤ 32) × (total shapes.now ≤ 512) × (total shapes.now * 6 ≤ length anchors.old) × (s < length shapes.now) × (k < count_of (word_at shapes.now s)) × ((q : ℕ) → q < total shapes.now → anchor_in anchors.old q ≡ true) }
+    ensures answer { result ≡ answering (last_verdict (smooth_path shapes.now anchors.old s k)) tt }
     ensures anchors { anchors.new ≡ anchors_left (last_verdict (smooth_path shapes.now anchors.old s k)) (smooth_path shapes.now anchors.old s k) anchors.old }
 {
     let n = path::count_of(shapes[s]);
     if n < 2 {
-        return Ok(Outline {
-            subpaths: shapes.len(),
-            anchors: count,
-        });
+        return Ok(());
     }
     let closed = path::closed_of(shapes[s]);
     let first = path::start_of(shapes, s);
@@ -61,14 +57,12 @@ fn smooth_known(
         return Err(Reason::Made.at(place));
     }
     path::put_anchor(anchors, place, a);
-    Ok(Outline {
-        subpaths: shapes.len(),
-        anchors: count,
-    })
+    Ok(())
 }
 
 // The segment from anchor a of subpath s to the next, bent so that its point at t moves by delta; t counts as 0.08 below that, as 0.92
 // above that. Where `keep` is set, a smooth anchor stays smooth: its other handle turns with the one that moves.
+// Kept: `keep` as the bool that the call is given; each function hands it on to the one that tests it.
 pub fn bend_segment(
     shapes: &[u32],
     anchors: &mut [f64],
@@ -88,10 +82,15 @@ pub fn bend_segment(
     if !has_bend(shapes, s, a) {
         return Err(Reason::Reference.at(0));
     }
-    bend_known(shapes, anchors, s, a, pull(t, delta), keep, count)
+    bend_known(shapes, anchors, s, a, pull(t, delta), keep)?;
+    Ok(Outline {
+        subpaths: shapes.len(),
+        anchors: count,
+    })
 }
 
 // The same of a segment that there is, in a path that passed its tests, its inner control points moving by v.
+// Kept: `keep` handed on, as above.
 #[tactic(auto, using(crate::proofs::Bends::bend_subpath, crate::proofs::Bends::bend_places, crate::proofs::Bends::bend_index, crate::proofs::Bends::next_inside))]
 fn bend_known(
     shapes: &[u32],
@@ -100,18 +99,14 @@ fn bend_known(
     a: usize,
     v: P,
     keep: bool,
-    count: usize,
-) -> Result<Outline, Refusal>
-    requires { (length shapes.now ≤ 32) × (total shapes.now ≤ 512) × (total shapes.now * 6 ≤ length anchors.old) × (count ≡ total shapes.now) × (has_bend shapes.now s a ≡ true) × ((q : ℕ) → q < total shapes.now → anchor_in anchors.old q ≡ true) }
-    ensures answer { result ≡ outline_answer (last_verdict (bend_path shapes.now anchors.old s a v keep)) (length shapes.now) (total shapes.now) }
+) -> Result<(), Refusal>
+    requires { (length shapes.now ≤ 32) × (total shapes.now ≤ 512) × (total shapes.now * 6 ≤ length anchors.old) × (has_bend shapes.now s a ≡ true) × ((q : ℕ) → q < total shapes.now → anchor_in anchors.old q ≡ true) }
+    ensures answer { result ≡ answering (last_verdict (bend_path shapes.now anchors.old s a v keep)) tt }
     ensures anchors { anchors.new ≡ anchors_left (last_verdict (bend_path shapes.now anchors.old s a v keep)) (bend_path shapes.now anchors.old s a v keep) anchors.old }
 {
     let n = path::count_of(shapes[s]);
     if n < 2 {
-        return Ok(Outline {
-            subpaths: shapes.len(),
-            anchors: count,
-        });
+        return Ok(());
     }
     let first = path::start_of(shapes, s);
     let i = first + a;
@@ -123,8 +118,5 @@ fn bend_known(
     }
     path::put_anchor(anchors, i, from);
     path::put_anchor(anchors, j, to);
-    Ok(Outline {
-        subpaths: shapes.len(),
-        anchors: count,
-    })
+    Ok(())
 }

@@ -1,4 +1,6 @@
 // The points beside an anchor of a subpath.
+// Kept: two functions, since they differ in both things that they say: the end that they test and the index that they read.
+// Kept: first, n and closed beside the list, since the type of a subpath is of `cut`, on which this crate does not stand.
 ghost use Rattle.std.specs.Prelude.{◌≡◌, ◌+◌, ◌*◌, ◌≤◌, ◌<◌, length};
 ghost use Rattle.bend.specs.Smoothed.{point_before, point_after};
 

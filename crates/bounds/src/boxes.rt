@@ -13,6 +13,7 @@ fn add_curve(mut b: Bounds, c: [P; 4]) -> Bounds
     ensures { result ≡ grown_by b (curve_points 16 c) }
 {
     let m = cubic::steps(c, 16);
+    // Kept: a loop up to m + 1, since a fold hands the box on by value, where `add` takes it lent, and `0..=m` leaves by a second way.
     for k in 0..m + 1 {
         add(&mut b, cubic::step_at(c, m, k));
     }
@@ -20,6 +21,7 @@ fn add_curve(mut b: Bounds, c: [P; 4]) -> Bounds
 }
 
 // The box with the segments of a subpath of n anchors, the first of which is at place k, and with that anchor.
+// Kept: k and n beside the list, since a segment's ends are read by their places in it.
 fn add_subpath(mut b: Bounds, anchors: &[f64], k: usize, n: usize, closed: bool) -> Bounds
     requires { (k + n ≤ 1024) × ((k + n) * 6 ≤ length anchors.now) }
     ensures { result ≡ grown_by b (subpath_points anchors.now k n closed) }

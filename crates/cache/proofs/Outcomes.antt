@@ -2,13 +2,9 @@
 use mathlib.Core.Path.{◌≡◌, ◌∙◌}
 use mathlib.Core.Bool.{Bool, true, false}
 use mathlib.Core.List.{List}
-use Prim.Native.Nat.{ℕ, ◌+◌, ◌*◌, ◌<◌}
-use native.Mathlib.Omega.{arith}
+use Prim.Native.Nat.{ℕ, ◌*◌}
 use lib.ListN.{length}
 use lib.Ieee.{Float}
-use Rattle.views.specs.View.{entry}
-use Rattle.views.proofs.Searches.{all_true, all_false}
-use Rattle.real.specs.Limit.{in_limit}
 use Rattle.refusal.specs.Reasons.{refusal_at}
 use Rattle.refusal.specs.declared.Refusal.{Refusal}
 use Rattle.refusal.specs.declared.Reason.TheVariants.{Arguments, Lists, Made}
@@ -27,7 +23,7 @@ use Rattle.corner.specs.Kinds.{kind_of, is_known}
 use Rattle.cut_calls.specs.PlainCut.{view_at}
 use Rattle.cut_calls.specs.Made.{made_verdict, made_answer, made_shapes, made_anchors}
 use Rattle.cache.specs.Cache.{place_of_path, cached_numbers, cached_flags, cached_in}
-use Rattle.cache.specs.Tests.{cache_fits, twelve_in, cache_verdict}
+use Rattle.cache.specs.Tests.{cache_fits, cache_verdict}
 use Rattle.cache.specs.Calls.{
   cut_places,
   build_verdict,
@@ -40,16 +36,6 @@ use Rattle.cache.specs.Calls.{
   assemble_shapes,
   assemble_anchors,
 }
-
--- ---- what makes a place of a list good or bad
-module _ (numbers : List Float) (k : ℕ) where
-  pub twelve_in_lem : ((i : ℕ) → i < 12 → in_limit (entry numbers (k * 12 + i)) ≡ true) → twelve_in numbers k ≡ true
-  unfolding twelve_in
-  twelve_in_lem h = all_true _ _ (λ i l. h i (omega arith))
-
-  pub twelve_out : (i : ℕ) → i < 12 → in_limit (entry numbers (k * 12 + i)) ≡ false → twelve_in numbers k ≡ false
-  unfolding twelve_in
-  twelve_out i l e = all_false _ _ i (omega arith) e
 
 -- ---- the last test of a cache
 module _ (good : ℕ → Bool) (n : ℕ) where

@@ -1,4 +1,5 @@
 // `assemble`, with its refusals: 7, 9 at the index in the assembled path, 8.
+// Kept: numbers and flags by themselves, as the C interface lends them.
 ghost use Rattle.std.specs.Prelude.{◌≡◌};
 ghost use Rattle.cache.specs.Calls.{assemble_answer, assemble_shapes, assemble_anchors};
 
@@ -22,6 +23,7 @@ pub fn assemble(
         return Err(Reason::Lists.at(0));
     };
     // Clearing the larger scratch would take longer than the rest.
+    // Kept: an array in each arm, since without a heap its size is fixed where it is made.
     if places <= 32 {
         let mut made = [0.0f64; 384];
         cut_calls::hand_over(shapes, numbers, flags, &mut made, to_shapes, to)

@@ -1,4 +1,5 @@
 // `build`, with its refusals: 7, 5, 9 at the place.
+// Kept: anchors and radii, numbers and flags by themselves, as the C interface lends them.
 ghost use Rattle.std.specs.Prelude.{◌≡◌, ◌*◌, ◌≤◌, length};
 ghost use Rattle.path.specs.Shape.{total};
 ghost use Rattle.call.specs.Answers.{outline_answer, list_left};

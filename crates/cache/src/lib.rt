@@ -10,4 +10,4 @@ mod writing;
 pub use assembling::assemble;
 pub use building::build;
 pub use sizes::size_test;
-pub use writing::first_bad_place;
+pub use writing::{first_bad_place, place_in_limit};

@@ -1,4 +1,5 @@
 // Refusal 7 of the calls on caches.
+// Kept: numbers and flags by themselves, as the C interface lends them.
 ghost use Rattle.std.specs.Prelude.{◌≡◌};
 ghost use Rattle.cache.specs.Tests.{cache_size};
 

@@ -1,10 +1,11 @@
 // The cached edit that moves an anchor: 7, 5, 6, 9.
+// Kept: anchors and radii, numbers and flags by themselves, as the C interface lends them.
 ghost use Rattle.session.specs.Edits.{move};
 ghost use Rattle.cached.specs.Opening.{lent};
 ghost use Rattle.cached.specs.Doing.{Does};
 
 use crate::opening::sub_at;
-use crate::planning::{AnchorEdit, plan_edit, reach_of};
+use crate::planning::{AnchorEdit, plan_edit};
 use cut::Window;
 use path::{Anchor, AnchorRef};
 use recutting::write_places;
@@ -12,6 +13,7 @@ use refusal::Refusal;
 use session::Edited;
 
 // Six new numbers for an anchor; the places within three steps are recut.
+// Kept: beside `set_radius`, which writes another list; one function for what is left would be lent as many.
 pub fn move_anchor(
     shapes: &[u32],
     anchors: &mut [f64],
@@ -29,7 +31,7 @@ pub fn move_anchor(
     let sub = sub_at(shapes, at.subpath);
     let w = Window {
         at: at.anchor,
-        reach: reach_of(e),
+        reach: e.reach(),
     };
     path::put_anchor(anchors, sub.first + at.anchor, new);
     write_places(

@@ -1,4 +1,5 @@
 // The first tests of a call on a drawing and its cache: refusals 7, 5 and 6.
+// Kept: anchors and radii, numbers and flags by themselves, as the C interface lends them.
 ghost use Rattle.std.specs.Prelude.{◌≡◌, ◌≤◌, ◌<◌, length};
 ghost use Rattle.cut_calls.specs.PlainCut.{sub_at};
 ghost use Rattle.edit.specs.Split.{has_segment};
@@ -32,6 +33,7 @@ pub struct Ready {
 }
 
 // The same for an edit: 5 also where the kind is not known, or the edit's own numbers are not `loose`ly within the limit.
+// Kept: loose as a flag, since the test is the caller's: each edit has numbers of its own.
 pub fn open_edit(
     shapes: &[u32],
     anchors: &[f64],
@@ -60,11 +62,7 @@ pub fn open_edit(
 pub fn has_segment(shapes: &[u32], s: usize, a: usize) -> bool
     ensures { result ≡ has_segment shapes.now s a }
 {
-    if shapes.len() <= s {
-        return false;
-    }
-    let count = path::count_of(shapes[s]);
-    path::has_segment(count, path::closed_of(shapes[s]), a)
+    s < shapes.len() && path::has_segment(path::count_of(shapes[s]), path::closed_of(shapes[s]), a)
 }
 
 // Subpath s.
@@ -72,9 +70,8 @@ pub fn sub_at(shapes: &[u32], s: usize) -> Sub
     requires { (s < length shapes.now) × (length shapes.now ≤ 32) }
     ensures { result ≡ sub_at shapes.now s }
 {
-    let first = path::start_of(shapes, s);
     Sub {
-        first: first,
+        first: path::start_of(shapes, s),
         n: path::count_of(shapes[s]),
         closed: path::closed_of(shapes[s]),
     }

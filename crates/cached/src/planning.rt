@@ -1,4 +1,5 @@
 // The edits of one anchor decided on lists that are only read: 7, 5, 6, 9.
+// Kept: anchors and radii, numbers and flags by themselves, as the C interface lends them.
 ghost use Rattle.std.specs.Prelude.{◌≡◌};
 ghost use Rattle.cached.specs.Opening.{lent};
 ghost use Rattle.cached.specs.Planning.{numbers_in, reach_of, anchor_then, radius_then, anchor_call, Planned};
@@ -16,46 +17,49 @@ pub enum AnchorEdit {
     Radius(f64),
 }
 
-// Whether its own numbers are within the limit.
-fn numbers_in(e: AnchorEdit) -> bool
-    ensures { result ≡ numbers_in e }
-{
-    match e {
-        AnchorEdit::Move(new) => new.in_limit(),
-        AnchorEdit::Radius(radius) => real::in_limit(radius),
+impl AnchorEdit {
+    // Whether its own numbers are within the limit.
+    fn in_limit(self) -> bool
+        ensures { result ≡ numbers_in self }
+    {
+        match self {
+            AnchorEdit::Move(new) => new.in_limit(),
+            AnchorEdit::Radius(radius) => real::in_limit(radius),
+        }
     }
-}
 
-// How many steps away from the anchor the cut turns on it.
-pub fn reach_of(e: AnchorEdit) -> usize
-    ensures { result ≡ reach_of e }
-{
-    match e {
-        AnchorEdit::Move(_) => 3,
-        AnchorEdit::Radius(_) => 2,
+    // How many steps away from the anchor the cut turns on it.
+    pub fn reach(self) -> usize
+        ensures { result ≡ reach_of self }
+    {
+        match self {
+            AnchorEdit::Move(_) => 3,
+            AnchorEdit::Radius(_) => 2,
+        }
     }
-}
 
-// What stands at the anchor once it is done.
-fn anchor_then(e: AnchorEdit, old: Anchor) -> Anchor
-    ensures { result ≡ anchor_then e old }
-{
-    match e {
-        AnchorEdit::Move(new) => new,
-        AnchorEdit::Radius(_) => old,
+    // What stands at the anchor once it is done.
+    fn anchor(self, old: Anchor) -> Anchor
+        ensures { result ≡ anchor_then self old }
+    {
+        match self {
+            AnchorEdit::Move(new) => new,
+            AnchorEdit::Radius(_) => old,
+        }
     }
-}
 
-fn radius_then(e: AnchorEdit, old: f64) -> f64
-    ensures { result ≡ radius_then e old }
-{
-    match e {
-        AnchorEdit::Move(_) => old,
-        AnchorEdit::Radius(new) => new,
+    fn radius(self, old: f64) -> f64
+        ensures { result ≡ radius_then self old }
+    {
+        match self {
+            AnchorEdit::Move(_) => old,
+            AnchorEdit::Radius(new) => new,
+        }
     }
 }
 
 // Decides whether the anchor may be edited so, and recuts the places within reach.
+// Kept: the kind by its number, since `open_edit` refuses one that is not known only after other tests.
 pub fn plan_edit(
     shapes: &[u32],
     anchors: &[f64],
@@ -68,7 +72,7 @@ pub fn plan_edit(
 ) -> Result<Plan, Refusal>
     ensures { Planned (lent shapes.now anchors.now radii.now numbers.now flags.now) kind (anchor_call at e) at.subpath at.anchor (reach_of e) result }
 {
-    let ready = open_edit(shapes, anchors, radii, kind, numbers, flags, numbers_in(e))?;
+    let ready = open_edit(shapes, anchors, radii, kind, numbers, flags, e.in_limit())?;
     if !path::has_anchor(shapes, at.subpath, at.anchor) {
         return Err(Reason::Reference.at(0));
     }
@@ -76,10 +80,10 @@ pub fn plan_edit(
     let k = sub.first + at.anchor;
     let w = Window {
         at: at.anchor,
-        reach: reach_of(e),
+        reach: e.reach(),
     };
-    let new = anchor_then(e, path::anchor_at(anchors, k));
-    let radius = radius_then(e, radii[k]);
+    let new = e.anchor(path::anchor_at(anchors, k));
+    let radius = e.radius(radii[k]);
     plan_put(
         anchors,
         radii,

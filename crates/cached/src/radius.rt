@@ -1,10 +1,11 @@
 // The cached edit that sets a radius: 7, 5, 6, 9.
+// Kept: anchors and radii, numbers and flags by themselves, as the C interface lends them.
 ghost use Rattle.session.specs.Edits.{set_radius};
 ghost use Rattle.cached.specs.Opening.{lent};
 ghost use Rattle.cached.specs.Doing.{Does};
 
 use crate::opening::sub_at;
-use crate::planning::{AnchorEdit, plan_edit, reach_of};
+use crate::planning::{AnchorEdit, plan_edit};
 use cut::Window;
 use path::AnchorRef;
 use recutting::write_places;
@@ -29,7 +30,7 @@ pub fn set_radius(
     let sub = sub_at(shapes, at.subpath);
     let w = Window {
         at: at.anchor,
-        reach: reach_of(e),
+        reach: e.reach(),
     };
     radii[sub.first + at.anchor] = radius;
     write_places(

@@ -7,6 +7,7 @@ use native.Mathlib.Omega.{arith}
 use lib.ListN.{length, get_or, set, length-set}
 use lib.Seq.{get_or-set_same, get_or-set_other}
 use lib.Ieee.{Float, nan}
+use Rattle.std.specs.List.{CopiedTo, SameBelow, SameFrom}
 use borrow.Author.Tests.{eq-eqb, ne_eqb}
 use Rattle.views.specs.View.{entry, overwrite}
 use Rattle.views.proofs.Laws.{order, same, length-overwrite, at_overwrite, past_overwrite, as_overwrite}
@@ -83,24 +84,17 @@ module _ (xs : List Float) (n a : ℕ) (la : a < n) where
     pub radii_put : set (gapped xs a n 1) (a + 1) 0f ≡ overwrite (n + 1) (split_radii (entry xs) a) xs
     radii_put = as_overwrite nan (set gap (a + 1) 0f) xs (n + 1) (split_radii (entry xs) a) (length-set gap (a + 1) 0f ∙ length-gap xs a n 1) radius_in radius_past
 
--- ---- flags: one store more
-module _ (fs gs : List ℕ) (n i : ℕ) (l : 0 < i) (m : i ≤ n) (h : (j : ℕ) → j < n + 1 → get_or gs j 0 ≡ get_or fs (old i j) 0) where
-  old_off : (j : ℕ) → (j ≡ i → ⊥) → old i j ≡ old (i - 1) j
-  old_off j ne =
-      ⊎_elim
-      (λ (k : j ≤ i - 1). old_low i j (omega arith) ∙ sym (old_low (i - 1) j k))
-      (λ (k : i - 1 < j). old_high i j (⊎_elim (λ (g : j ≤ i). absurd (ne (omega arith))) (λ (g : i < j). g) (order j i)) ∙ sym (old_high (i - 1) j k))
-      (order j (i - 1))
-
-  pub flag_step : i < length gs → (j : ℕ) → j < n + 1 → get_or (set gs (i - 1 + 1) (get_or gs (i - 1) 0)) j 0 ≡ get_or fs (old (i - 1) j) 0
-  flag_step b j k =
-      let e : i - 1 + 1 ≡ i = omega arith in
-      rw e
-      (⊎_elim
-      (λ (q : j ≡ i). ap (λ z. get_or (set gs i (get_or gs (i - 1) 0)) z 0) q ∙ get_or-set_same gs i (get_or gs (i - 1) 0) 0 b ∙ h (i - 1) (omega arith)
-      ∙ ap (λ z. get_or fs z 0) (old_low i (i - 1) (omega arith) ∙ sym (old_high (i - 1) j (omega arith) ∙ omega arith)))
-      (λ (ne : j ≡ i → ⊥). get_or-set_other gs i j (get_or gs (i - 1) 0) 0 ne ∙ h j k ∙ ap (λ z. get_or fs z 0) (old_off j ne))
-      (same j i))
+-- ---- flags: what the copy leaves
+pub flags_copied : (fs gs : List ℕ) (a n : ℕ) → a ≤ n → n < length fs → length gs ≡ length fs
+    → CopiedTo fs gs a (a + 1) (n - a) → SameBelow fs gs (a + 1) → SameFrom fs gs (a + 1 + (n - a)) → gs ≡ shifted_flags fs a n
+unfolding shifted_flags
+flags_copied fs gs a n l room len copied low high =
+    as_overwrite 0 gs fs (n + 1) (λ k. get_or fs (old a k) 0) len
+    (λ j h. ⊎_elim
+    (λ (m : a + 1 ≤ j). let e : a + (j - (a + 1)) ≡ j - 1 = omega arith in copied j 0 m (omega arith) ∙ ap (λ z. get_or fs z 0) (e ∙ sym (old_high a j (omega arith))))
+    (λ (m : j < a + 1). low j 0 m ∙ ap (λ z. get_or fs z 0) (sym (old_low a j (omega arith))))
+    (order (a + 1) j))
+    (λ j h. high j 0 (omega arith))
 
 pub length-shifted : (fs : List ℕ) (a n : ℕ) → length (shifted_flags fs a n) ≡ length fs
 unfolding shifted_flags

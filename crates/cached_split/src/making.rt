@@ -1,4 +1,5 @@
 // The drawing that a split makes: its anchors and radii put in place.
+// Kept: n beside a list, which is lent longer than what it holds.
 ghost use Rattle.std.specs.Prelude.{◌≡◌, ℕ, ◌+◌, ◌*◌, ◌≤◌, ◌<◌, length};
 ghost use Rattle.views.specs.View.{entry, overwrite};
 ghost use Rattle.path.specs.Flat.{anchor_at, anchor_numbers};
@@ -51,8 +52,7 @@ pub fn grown(sub: Sub) -> Sub
     ensures { result ≡ grown sub }
 {
     Sub {
-        first: sub.first,
         n: sub.n + 1,
-        closed: sub.closed,
+        ..sub
     }
 }

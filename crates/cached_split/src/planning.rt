@@ -1,4 +1,5 @@
 // The split of a segment decided on lists that are only read: 7, 5, 6, 10, 9, 8.
+// Kept: anchors and radii, numbers and flags by themselves, as the C interface lends them.
 ghost use Rattle.std.specs.Prelude.{◌≡◌, IfOk, true, ◌||◌, ◌+◌, ◌*◌, ◌≤◌, ◌<◌, ltb, length};
 ghost use Rattle.cut.specs.View.{View};
 ghost use Rattle.recutting.specs.Stretch.{Decides};
@@ -31,24 +32,23 @@ fn plan_halves(
     ensures { IfOk result (λ p. p.total ≡ total) × ((v : View) → Halving v kind sub a h anchors.now radii.now → Decides v (grown sub) (record { at = a + 1; reach = 4 }) result) }
 {
     let more = grown(sub);
-    let n = more.n;
-    let at = a + 1;
-    let w = Window { at: at, reach: 4 };
+    let w = Window {
+        at: a + 1,
+        reach: 4,
+    };
     let s = stretch_of(more, w);
-    let g = gather(anchors, radii, more, s, a);
-    let mid = s.mid;
-    let start = rolled(n, s.from, a);
-    let end = rolled(n, s.from, path::next(n, at));
-    let mut held = g.anchors;
-    let mut rounds = g.radii;
-    path::put_anchor(&mut held, start, h.left);
-    path::put_anchor(&mut held, mid, h.middle);
-    path::put_anchor(&mut held, end, h.right);
-    rounds[mid] = 0.0;
-    plan_recut(&held, &rounds, kind, more, w, s, total)
+    let start = rolled(more.n, s.from, a);
+    let end = rolled(more.n, s.from, path::next(more.n, w.at));
+    let mut g = gather(anchors, radii, more, s, a);
+    path::put_anchor(&mut g.anchors, start, h.left);
+    path::put_anchor(&mut g.anchors, s.mid, h.middle);
+    path::put_anchor(&mut g.anchors, end, h.right);
+    g.radii[s.mid] = 0.0;
+    plan_recut(&g.anchors, &g.radii, kind, more, w, s, total)
 }
 
-// What 7 and 5 leave, and the number of the kind, which the contracts name.
+// What 7 and 5 leave, and the number of the kind.
+// Kept: the number beside the kind, since the contracts name it.
 #[derive(Clone, Copy)]
 struct Tested {
     kind: u32,
@@ -69,17 +69,15 @@ fn plan_begun(
     requires { Begun (lent shapes.now anchors.now radii.now numbers.now flags.now) d.kind at.subpath at.anchor t d.ready }
     ensures { SplitPlanned (lent shapes.now anchors.now radii.now numbers.now flags.now) d.kind at.subpath at.anchor t result }
 {
-    let a = at.anchor;
-    let ready = d.ready;
     let sub = sub_at(shapes, at.subpath);
-    let from = sub.first + a;
-    let to = sub.first + path::next(sub.n, a);
+    let from = sub.first + at.anchor;
+    let to = sub.first + path::next(sub.n, at.anchor);
     let h = halved(anchors, from, to, t);
     if let Some(k) = first_put(h, from, to) {
         return Err(Reason::Made.at(k));
     }
-    let more = ready.anchors + 1;
-    let plan = plan_halves(anchors, radii, ready.kind, sub, a, h, more)?;
+    let more = d.ready.anchors + 1;
+    let plan = plan_halves(anchors, radii, d.ready.kind, sub, at.anchor, h, more)?;
     if !has_room(anchors, radii, numbers, flags, more) {
         return Err(Reason::Output.at(0));
     }
@@ -87,6 +85,7 @@ fn plan_begun(
 }
 
 // Decides whether the segment that starts at an anchor may be split at t, and recuts the places within four steps of the new anchor.
+// Kept: the kind by its number, since `open_edit` refuses one that is not known only after other tests.
 pub fn plan_split(
     shapes: &[u32],
     anchors: &[f64],

@@ -1,4 +1,5 @@
 // The cached edit that splits a segment: 7, 5, 6, 10, 9, 8.
+// Kept: anchors and radii, numbers and flags by themselves, as the C interface lends them.
 ghost use Rattle.session.specs.Edits.{split};
 ghost use Rattle.cached.specs.Opening.{lent};
 ghost use Rattle.cached.specs.Doing.{Does};
@@ -27,17 +28,15 @@ pub fn split_segment(
     ensures { Does (lent shapes.old anchors.old radii.old numbers.old flags.old) kind (split at.subpath at.anchor t) result (lent shapes.new anchors.new radii.new numbers.new flags.new) }
 {
     let plan = plan_split(shapes, anchors, radii, kind, numbers, flags, at, t)?;
-    let s = at.subpath;
-    let a = at.anchor;
-    let sub = sub_at(shapes, s);
+    let sub = sub_at(shapes, at.subpath);
     let n = plan.total - 1;
     let w = Window {
-        at: a + 1,
+        at: at.anchor + 1,
         reach: 4,
     };
-    let from = sub.first + a;
-    let to = sub.first + path::next(sub.n, a);
-    write_drawing(shapes, anchors, radii, s, from, to, n, t);
+    let from = sub.first + at.anchor;
+    let to = sub.first + path::next(sub.n, at.anchor);
+    write_drawing(shapes, anchors, radii, at.subpath, from, to, n, t);
     shift_cache(numbers, flags, from, n);
     write_places(
         grown(sub),

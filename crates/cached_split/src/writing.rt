@@ -1,4 +1,6 @@
 // The lists of a split that no test refused.
+// Kept: anchors and radii, numbers and flags by themselves, as the C interface lends them.
+// Kept: n beside a list, which is lent longer than what it holds.
 ghost use Rattle.std.specs.Prelude.{◌≡◌, ◌+◌, ◌*◌, ◌≤◌, ◌<◌, length};
 ghost use Rattle.views.specs.View.{entry, overwrite};
 ghost use Rattle.path.specs.Flat.{anchor_at, anchor_numbers};
@@ -19,16 +21,12 @@ pub fn has_room(anchors: &[f64], radii: &[f64], numbers: &[f64], flags: &[u32], 
     n * 6 <= anchors.len() && n <= radii.len() && n * 12 <= numbers.len() && n <= flags.len()
 }
 
-// Moves the flags of the places after a, of n, up by one, the last one first; the new place gets a's.
+// Moves the flags of the places after a, of n, up by one; the new place gets a's.
 fn shift_flags(flags: &mut [u32], a: usize, n: usize)
     requires { (a ≤ n) × (n < length flags.old) }
     ensures { flags.new ≡ shifted_flags flags.old a n }
 {
-    let mut i = n;
-    while a < i {
-        i -= 1;
-        flags[i + 1] = flags[i];
-    }
+    flags.copy_within(a..n, a + 1);
 }
 
 // The drawing of n anchors with the segment from place a to place b, of subpath s, split.

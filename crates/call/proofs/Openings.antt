@@ -22,7 +22,7 @@ use Rattle.path.specs.Shape.{total, sized_of}
 use Rattle.path.specs.Limit.{anchor_in, place_in}
 use Rattle.path.proofs.Shapes.{Fits}
 use Rattle.path.proofs.Limits.{GoodBelow, Least, search_to}
-use Rattle.call.specs.Tests.{places, path_fits, drawing_fits, path_limit, drawing_limit, opened_path, opened_drawing}
+use Rattle.call.specs.Tests.{places, path_fits, drawing_fits, path_limit, drawing_limit, sized_path, opened_path, opened_drawing}
 
 -- ---- tests by place
 module _ (good : ℕ → Bool) (n : ℕ) (after : Test) where
@@ -104,19 +104,66 @@ module _ (b : Bool) (good : ℕ → Bool) (n : ℕ) where
 
 -- ---- a path
 -- the size that `size_test` refuses
-size_wrong : (most : ℕ) (shapes : List ℕ) (anchors : List Float) → sized_of shapes most ≡ None → path_fits most shapes anchors ≡ false
+wrong_size : (most : ℕ) (shapes : List ℕ) (anchors : List Float) → sized_of shapes most ≡ None → path_fits most shapes anchors ≡ false
 unfolding sized_of path_fits
-size_wrong most shapes anchors = go (leb (length shapes) 32) (leb (total shapes) most)
+wrong_size most shapes anchors = go (leb (length shapes) 32) (leb (total shapes) most)
   where
     go : (p q : Bool) → cond (p && q) (Some (total shapes)) None ≡ None → (p && (q && leb (total shapes * 6) (length anchors))) ≡ false
     go true true e = let z : ◌≡◌ {A = ℕ} 0 1 = cc in absurd (omega arith)
     go true false e = refl
     go false q e = refl
 
+-- what 7 alone answers of a path
+size_err : (most : ℕ) (shapes : List ℕ) (anchors : List Float) (why : Refusal) → sized_path most shapes anchors ≡ Err why → (path_fits most shapes anchors ≡ false) × (why ≡ refusal_at Lists 0)
+unfolding sized_path
+size_err most shapes anchors why = go (path_fits most shapes anchors)
+  where
+    go : (b : Bool) → cond b (Ok (total shapes)) (Err (refusal_at Lists 0)) ≡ Err why → (b ≡ false) × (why ≡ refusal_at Lists 0)
+    go true e = absurd cc
+    go false e = (refl, cc)
+
+size_ok : (most : ℕ) (shapes : List ℕ) (anchors : List Float) (n : ℕ) → sized_path most shapes anchors ≡ Ok n → (path_fits most shapes anchors ≡ true) × (n ≡ total shapes)
+unfolding sized_path
+size_ok most shapes anchors n = go (path_fits most shapes anchors)
+  where
+    go : (b : Bool) → cond b (Ok (total shapes)) (Err (refusal_at Lists 0)) ≡ Ok n → (b ≡ true) × (n ≡ total shapes)
+    go true e = (refl, cc)
+    go false e = absurd cc
+
 module _ (most : ℕ) (shapes : List ℕ) (anchors : List Float) where
-  pub path_wrong : sized_of shapes most ≡ None → Err (refusal_at Lists 0) ≡ opened_path most shapes anchors
+  path_says : path_fits most shapes anchors ≡ true → (length shapes ≤ 32) × (total shapes ≤ most) × (total shapes * 6 ≤ length anchors)
+  unfolding path_fits
+  path_says = go (leb (length shapes) 32) (leb (total shapes) most) (leb (total shapes * 6) (length anchors)) refl refl refl
+    where
+      go : (p q r : Bool) → leb (length shapes) 32 ≡ p → leb (total shapes) most ≡ q → leb (total shapes * 6) (length anchors) ≡ r → (p && (q && r)) ≡ true
+          → (length shapes ≤ 32) × (total shapes ≤ most) × (total shapes * 6 ≤ length anchors)
+      go true true true e f g h = (leb-true _ _ e, leb-true _ _ f, leb-true _ _ g)
+      go true true false e f g h = absurd (true≢false (sym h))
+      go true false r e f g h = absurd (true≢false (sym h))
+      go false q r e f g h = absurd (true≢false (sym h))
+
+  -- the size alone
+  pub size_closed : path_fits most shapes anchors ≡ false → Err (refusal_at Lists 0) ≡ sized_path most shapes anchors
+  unfolding sized_path
+  size_closed e = rw e
+
+  pub size_wrong : sized_of shapes most ≡ None → Err (refusal_at Lists 0) ≡ sized_path most shapes anchors
+  size_wrong e = size_closed (wrong_size most shapes anchors e)
+
+  size_open : path_fits most shapes anchors ≡ true → Ok (total shapes) ≡ sized_path most shapes anchors
+  unfolding sized_path
+  size_open e = rw e
+
+  pub path_closed : (why : Refusal) → sized_path most shapes anchors ≡ Err why → Err why ≡ opened_path most shapes anchors
   unfolding opened_path path_limit
-  path_wrong e = open_lists _ _ _ (size_wrong most shapes anchors e)
+  path_closed why e = let c = size_err most shapes anchors why e in rw c.1 (open_lists _ _ _ c.0)
+
+  pub path_sized : (n : ℕ) → sized_path most shapes anchors ≡ Ok n → Fits shapes most n × (n * 6 ≤ length anchors)
+  path_sized n e =
+      let c = size_ok most shapes anchors n e in
+      let s = path_says c.0 in
+      let k = c.1 in
+      (record { words = s.0; anchors = s.1; count = k }, let l = s.2 in omega arith)
 
   module _ (n : ℕ) (f : Fits shapes most n) where
     short_path : length anchors < n * 6 → path_fits most shapes anchors ≡ false
@@ -127,9 +174,11 @@ module _ (most : ℕ) (shapes : List ℕ) (anchors : List Float) where
     unfolding path_fits
     long_path h = let e = f.count in rw (le-leb _ _ f.words, le-leb _ _ f.anchors, le-leb (total shapes * 6) (length anchors) (omega arith))
 
-    pub path_short : length anchors < n * 6 → Err (refusal_at Lists 0) ≡ opened_path most shapes anchors
-    unfolding opened_path path_limit
-    path_short h = open_lists _ _ _ (short_path h)
+    pub size_short : length anchors < n * 6 → Err (refusal_at Lists 0) ≡ sized_path most shapes anchors
+    size_short h = size_closed (short_path h)
+
+    pub size_good : n * 6 ≤ length anchors → Ok n ≡ sized_path most shapes anchors
+    size_good h = rw f.count (size_open (long_path h))
 
     module _ (h : n * 6 ≤ length anchors) where
       pub path_bad : (k : ℕ) → Least (anchor_in anchors) (total shapes) k → Err (refusal_at Arguments k) ≡ opened_path most shapes anchors
@@ -150,17 +199,6 @@ module _ (most : ℕ) (shapes : List ℕ) (anchors : List Float) where
     -- 7 passes, and 5 leaves the loose arguments
     pub lists_pass : holds (path_fits most shapes anchors) 0 ≡ passes
     pub places_good : (loose : Bool) → path_limit shapes anchors loose ≡ holds loose (total shapes)
-
-  path_says : path_fits most shapes anchors ≡ true → (length shapes ≤ 32) × (total shapes ≤ most) × (total shapes * 6 ≤ length anchors)
-  unfolding path_fits
-  path_says = go (leb (length shapes) 32) (leb (total shapes) most) (leb (total shapes * 6) (length anchors)) refl refl refl
-    where
-      go : (p q r : Bool) → leb (length shapes) 32 ≡ p → leb (total shapes) most ≡ q → leb (total shapes * 6) (length anchors) ≡ r → (p && (q && r)) ≡ true
-          → (length shapes ≤ 32) × (total shapes ≤ most) × (total shapes * 6 ≤ length anchors)
-      go true true true e f g h = (leb-true _ _ e, leb-true _ _ f, leb-true _ _ g)
-      go true true false e f g h = absurd (true≢false (sym h))
-      go true false r e f g h = absurd (true≢false (sym h))
-      go false q r e f g h = absurd (true≢false (sym h))
 
   pub path_opens : (n : ℕ) → opened_path most shapes anchors ≡ Ok n → PathOpens n
   unfolding opened_path path_limit
@@ -188,15 +226,11 @@ module _ (shapes : List ℕ) (anchors radii : List Float) where
   unfolding drawing_fits
   no_drawing e = rw e
 
-  pub drawing_wrong : sized_of shapes 512 ≡ None → Err (refusal_at Lists 0) ≡ opened_drawing shapes anchors radii
+  pub drawing_closed : (why : Refusal) → sized_path 512 shapes anchors ≡ Err why → Err why ≡ opened_drawing shapes anchors radii
   unfolding opened_drawing drawing_limit
-  drawing_wrong e = open_lists _ _ _ (no_drawing (size_wrong 512 shapes anchors e))
+  drawing_closed why e = let c = size_err 512 shapes anchors why e in rw c.1 (open_lists _ _ _ (no_drawing c.0))
 
   module _ (n : ℕ) (f : Fits shapes 512 n) where
-    pub drawing-short : length anchors < n * 6 → Err (refusal_at Lists 0) ≡ opened_drawing shapes anchors radii
-    unfolding opened_drawing drawing_limit
-    drawing-short h = open_lists _ _ _ (no_drawing (short_path 512 shapes anchors n f h))
-
     module _ (h : n * 6 ≤ length anchors) where
       few_radii : length radii < n → drawing_fits shapes anchors radii ≡ false
       unfolding drawing_fits

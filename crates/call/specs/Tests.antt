@@ -1,9 +1,10 @@
 -- The tests that calls on paths share (document 01, 'Who can cause a refusal'). Assumes nothing.
-use Rattle.std.proofs.Common.{Result}
+use Rattle.std.proofs.Common.{Result, Ok, Err}
 use Rattle.std.specs.Prelude.{ℕ, ◌*◌, Bool, true, ◌&&◌, cond, List, leb, ltb, length, Float}
 use Rattle.views.specs.Search.{first_false}
 use Rattle.refusal.specs.declared.Refusal.{Refusal}
 use Rattle.refusal.specs.declared.Reason.TheVariants.{Arguments, Lists}
+use Rattle.refusal.specs.Reasons.{refusal_at}
 use Rattle.refusal.specs.Order.{Test, passes, fails, holds, judge, accepted, answering}
 use Rattle.path.specs.declared.anchor.Anchor.{Anchor}
 use Rattle.path.specs.Flat.{nth}
@@ -39,6 +40,10 @@ outline_limit ps = places (outline_in ps) (length ps) passes
 -- ---- 8: the lent lists are long enough for m shape words and so many anchors
 unfoldable pub room_for : ℕ → ℕ → List ℕ → List Float → Bool
 room_for m count to_shapes to = leb m (length to_shapes) && leb (count * 6) (length to)
+
+-- ---- 7 alone: how many anchors, or the refusal
+unfoldable pub sized_path : ℕ → List ℕ → List Float → Result ℕ Refusal
+sized_path most shapes anchors = cond (path_fits most shapes anchors) (Ok (total shapes)) (Err (refusal_at Lists 0))
 
 -- ---- 7, then 5 without loose arguments: how many anchors, or the refusal
 unfoldable pub opened_path : ℕ → List ℕ → List Float → Result ℕ Refusal

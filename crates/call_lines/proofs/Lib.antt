@@ -1,3 +1,4 @@
+pub mod Chunks
 pub mod Places
 pub mod Rooms
 mod Samples

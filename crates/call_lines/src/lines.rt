@@ -1,4 +1,5 @@
 // The lines of the calls: what was refused, or which places were recut.
+// Kept: codes and answers by themselves, and a call's kind and its refusal by number, as the C interface's replay has these words.
 ghost use Rattle.std.specs.Prelude.{◌≡◌, ◌+◌, ◌*◌, ◌≤◌, length};
 ghost use Rattle.decimal.specs.Put.{Put, Adds};
 ghost use Rattle.call_lines.specs.Lines.{window_of, sub_from, recut_places, recut_text, call_line, call_lines, Sound, SoundAll};
@@ -13,6 +14,7 @@ fn window_of(which: u32, index: u32) -> Window
     ensures { result ≡ window_of which index }
 {
     let i = index as usize;
+    // Kept: by number, since a number above 1 counts as a split here, and no other step asks which call it is.
     match which {
         0 => Window { at: i, reach: 3 },
         1 => Window { at: i, reach: 2 },
@@ -20,6 +22,18 @@ fn window_of(which: u32, index: u32) -> Window
             at: i + 1,
             reach: 4,
         },
+    }
+}
+
+// A subpath from the place at which it starts and its shape word.
+#[tactic(auto, unfolding(crate::specs::Lines::sub_from))]
+fn sub_from(first: u32, word: u32) -> Sub
+    ensures { result ≡ sub_from first word }
+{
+    Sub {
+        first: first as usize,
+        n: path::count_of(word),
+        closed: path::closed_of(word),
     }
 }
 
@@ -55,32 +69,24 @@ pub fn put_call(
     if refused {
         add_refused(text, number, second as usize);
     } else {
-        let sub = Sub {
-            first: first as usize,
-            n: path::count_of(word),
-            closed: path::closed_of(word),
-        };
-        put_recut(text, sub, window_of(which, index));
+        put_recut(text, sub_from(first, word), window_of(which, index));
     }
     text.put(b'\n');
 }
 
 // Puts the lines of m calls, from three words of code each and five words of answer each.
+// Kept: m beside the lists, which are lent longer than what they hold.
 pub fn put_calls(out: &mut [u8], codes: &[u32], answers: &[u32], m: usize) -> usize
     requires { (m ≤ 256) × (m * 3 ≤ length codes.now) × (m * 5 ≤ length answers.now) × SoundAll codes.now answers.now m }
     ensures text { Put out.old 0 (call_lines codes.now answers.now m) out.new result }
     ensures room { result ≤ m * 42 }
 {
     let mut text = Text::new(out);
-    for j in 0..m {
+    let codes = codes[..m * 3].chunks_exact(3);
+    let answers = answers[..m * 5].chunks_exact(5);
+    for (code, answer) in codes.zip(answers) {
         put_call(
-            &mut text,
-            codes[j * 3],
-            codes[j * 3 + 2],
-            answers[j * 5],
-            answers[j * 5 + 1],
-            answers[j * 5 + 3],
-            answers[j * 5 + 4],
+            &mut text, code[0], code[2], answer[0], answer[1], answer[3], answer[4],
         );
     }
     text.len()

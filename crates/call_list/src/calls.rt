@@ -1,28 +1,38 @@
 // The list of calls at the start of the input: how many, then nine words a call.
-ghost use Rattle.std.specs.Prelude.{◌≡◌, ◌+◌, ◌*◌, ◌≤◌, length};
+// Kept: codes and values by themselves, as the C interface lends them to replay.
+ghost use Rattle.std.specs.Prelude.{◌≡◌, ℕ, ◌+◌, ◌*◌, ◌/◌, ◌≤◌, ◌<◌, length};
 ghost use Rattle.views.specs.View.{overwrite};
 ghost use Rattle.call_list.specs.Input.{list_fits, code_at, value_at, calls_answer, codes_left, values_left};
 
 use crate::number::number_of;
 use refusal::{Reason, Refusal};
 
-// The codes of m calls, three words each: which, subpath, index.
-fn read_codes(bytes: &[u8], m: usize, codes: &mut [u32])
-    requires { (4 + m * 36 ≤ length bytes.now) × (m * 3 ≤ length codes.old) }
-    ensures { codes.new ≡ overwrite (m * 3) (code_at bytes.now) codes.old }
+// Entry k of the codes, three a call: which, subpath, index.
+#[tactic(auto, unfolding(crate::specs::Input::code_at))]
+fn code(bytes: &[u8], k: usize) -> u32
+    requires { (k < 768) × (40 + k / 3 * 36 ≤ length bytes.now) }
+    ensures { result ≡ code_at bytes.now k }
 {
-    for k in 0..m * 3 {
-        codes[k] = job::word_at(bytes, 1 + k / 3 * 9 + k % 3);
-    }
+    job::word_at(bytes, 1 + k / 3 * 9 + k % 3)
 }
 
-// The values of m calls, six numbers each.
-fn read_values(bytes: &[u8], m: usize, values: &mut [f64])
-    requires { (4 + m * 36 ≤ length bytes.now) × (m * 6 ≤ length values.old) }
-    ensures { values.new ≡ overwrite (m * 6) (value_at bytes.now) values.old }
+// Entry k of the values, six a call.
+#[tactic(auto, unfolding(crate::specs::Input::value_at))]
+fn value(bytes: &[u8], k: usize) -> f64
+    requires { (k < 1536) × (40 + k / 6 * 36 ≤ length bytes.now) }
+    ensures { result ≡ value_at bytes.now k }
 {
-    for k in 0..m * 6 {
-        values[k] = number_of(job::word_at(bytes, 4 + k / 6 * 9 + k % 6));
+    number_of(job::word_at(bytes, 4 + k / 6 * 9 + k % 6))
+}
+
+// Fills a list.
+fn fill<T: Copy, F: Fn(usize) -> T>(list: &mut [T], entry: F)
+    requires { (k : ℕ) → k < length list.old → F.pre entry k }
+    ensures { (f : ℕ → T) → ((k : ℕ) (x : T) → k < length list.old → F.post entry k x → x ≡ f k) → list.new ≡ overwrite (length list.old) f list.old }
+{
+    // Kept: by index, since a proof learns only the length of what iter_mut leaves.
+    for k in 0..list.len() {
+        list[k] = entry(k);
     }
 }
 
@@ -56,7 +66,7 @@ pub fn read_calls(
         return Err(Reason::Unended.at(bytes.len() / 4));
     }
     let m = job::word_at(bytes, 0) as usize;
-    read_codes(bytes, m, codes);
-    read_values(bytes, m, values);
+    fill(&mut codes[..m * 3], |k| code(bytes, k));
+    fill(&mut values[..m * 6], |k| value(bytes, k));
     Ok(m)
 }

@@ -7,8 +7,5 @@ ghost use Rattle.call_list.specs.Number.{number_of};
 pub fn number_of(word: u32) -> f64
     ensures { result ≡ number_of word }
 {
-    if word < 2147483648 {
-        return word as f64 / 1024.0;
-    }
-    -((4294967296 - word as u64) as f64 / 1024.0)
+    f64::from(word.cast_signed()) / 1024.0
 }

@@ -1,11 +1,11 @@
 // `path_corners`, with its refusals: by the lists, the arguments, what is made (at place 0), the output.
+// Kept: places and numbers by themselves, in scratch too, as the C interface lends them.
 ghost use Rattle.std.specs.Prelude.{◌≡◌, ◌*◌, ◌≤◌, length};
 ghost use Rattle.path.specs.Shape.{total};
 ghost use Rattle.corner_calls.specs.Corners.{path_corner, corner_places};
 ghost use Rattle.corner_calls.specs.Calls.{path_corners_answer, path_corners_places, path_corners_numbers, found_answer, places_held, found_numbers};
 
 use crate::finding::find_corners;
-use crate::limits::all_in_limit;
 use refusal::{Reason, Refusal};
 
 // The corners of a path, in order: the place of each, and nine numbers: the point, the directions and the lengths of its sides, and the
@@ -39,7 +39,7 @@ fn list_corners(
     let mut at = [0u32; 512];
     let mut rows = [0.0f64; 4608];
     let count = find_corners(shapes, anchors, &mut at, &mut rows);
-    if !all_in_limit(&rows, count * 9) {
+    if !rows[..count * 9].iter().all(|x| real::in_limit(*x)) {
         return Err(Reason::Made.at(0));
     }
     if places.len() < count {

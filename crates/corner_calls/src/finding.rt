@@ -1,6 +1,8 @@
 // The search for a path's corners, subpath by subpath.
-ghost use Rattle.std.specs.Prelude.{◌≡◌, ◌+◌, ◌*◌, ◌≤◌, ◌<◌, length};
-ghost use Rattle.path.specs.Shape.{count_of, total, word_at, start};
+// Kept: places and rows by themselves, as the lists are lent to which each is then copied.
+ghost use Rattle.std.specs.Prelude.{◌≡◌, ℕ, ◌+◌, ◌*◌, ◌≤◌, ◌<◌, Option, length};
+ghost use Rattle.path.specs.Shape.{total};
+ghost use Rattle.corner.specs.declared.corner.Corner as corner_type;
 ghost use Rattle.cut.specs.Subpath.{Fits};
 ghost use Rattle.cut.specs.Places.{corner_at};
 ghost use Rattle.corner_calls.specs.Corners.{plain_view, path_corner, put_corner, Holds};
@@ -33,34 +35,28 @@ fn put_corner(rows: &mut [f64], i: usize, c: Corner)
     rows[b + 8] = c.max_radius();
 }
 
-// Adds the corners of subpath s, whose first anchor is at place `first`, to the `found` ones before it.
+// Adds the corners of a subpath to the `found` ones before it.
 fn find_in_subpath(
-    shapes: &[u32],
     anchors: &[f64],
-    s: usize,
-    first: usize,
+    sub: Sub,
     found: usize,
     at: &mut [u32],
     rows: &mut [f64],
 ) -> usize
-    requires s_in_bounds { (s < length shapes.now) × (first ≡ start shapes.now s) × (total shapes.now ≤ 512) × (total shapes.now * 6 ≤ length anchors.now) }
-    requires shapes_in_bounds { (total shapes.now ≤ length at.old) × (total shapes.now * 9 ≤ length rows.old) }
-    requires holds { Holds (path_corner shapes.now anchors.now) first at.old rows.old found }
+    requires sub_in_bounds { (sub.first + sub.n ≤ 512) × ((sub.first + sub.n) * 6 ≤ length anchors.now) × (found ≤ sub.first) }
+    requires lists_in_bounds { (sub.first + sub.n ≤ length at.old) × ((sub.first + sub.n) * 9 ≤ length rows.old) }
     ensures at_kept { length at.new ≡ length at.old }
     ensures rows_kept { length rows.new ≡ length rows.old }
-    ensures found { Holds (path_corner shapes.now anchors.now) (first + count_of (word_at shapes.now s)) at.new rows.new result }
+    ensures few { result ≤ sub.first + sub.n }
+    ensures found { (corner : ℕ → Option corner_type.Corner) → ((i : ℕ) → i < sub.n → corner (sub.first + i) ≡ corner_at (plain_view anchors.now sub) i) → Holds corner sub.first at.old rows.old found → Holds corner (sub.first + sub.n) at.new rows.new result }
 {
-    let sub = Sub {
-        first,
-        n: path::count_of(shapes[s]),
-        closed: path::closed_of(shapes[s]),
-    };
     let mut count = found;
+    // Kept: by index and count, since a proof learns only the length of what iter_mut leaves.
     for i in 0..sub.n {
         let Some(c) = corner_at(anchors, sub, i) else {
             continue;
         };
-        at[count] = (first + i) as u32;
+        at[count] = (sub.first + i) as u32;
         put_corner(rows, count, c);
         count += 1;
     }
@@ -78,9 +74,14 @@ pub fn find_corners(shapes: &[u32], anchors: &[f64], at: &mut [u32], rows: &mut 
 {
     let mut first: usize = 0;
     let mut count: usize = 0;
-    for s in 0..shapes.len() {
-        count = find_in_subpath(shapes, anchors, s, first, count, at, rows);
-        first += path::count_of(shapes[s]);
+    for word in shapes {
+        let sub = Sub {
+            first,
+            n: path::count_of(*word),
+            closed: path::closed_of(*word),
+        };
+        count = find_in_subpath(anchors, sub, count, at, rows);
+        first += sub.n;
     }
     count
 }

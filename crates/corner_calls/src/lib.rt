@@ -3,6 +3,5 @@
 
 mod calls;
 mod finding;
-mod limits;
 
 pub use calls::path_corners;

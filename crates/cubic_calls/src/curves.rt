@@ -45,7 +45,7 @@ pub fn sample(c: [P; 4], n: usize, out: &mut [f64]) -> Result<usize, Refusal>
     }
     let mut points = [0.0f64; 514];
     let count = cubic::sample(c, n, &mut points);
-    if !numbers_in_limit(&points, 2 * count) {
+    if !numbers_in_limit(&points[..2 * count]) {
         return Err(Reason::Made.at(0));
     }
     if out.len() < 2 * count {

@@ -1,4 +1,5 @@
 // Every place of a drawing: the cut of each subpath, whole.
+// Kept: anchors and radii, numbers and flags by themselves, as the C interface lends them.
 ghost use Rattle.std.specs.Prelude.{◌≡◌, ◌*◌, ◌≤◌, length};
 ghost use Rattle.path.specs.Shape.{total};
 ghost use Rattle.cut_calls.specs.PlainCut.{Laid, view_at};

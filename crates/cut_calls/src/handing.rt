@@ -1,4 +1,5 @@
 // Places put together to an outline, in lent lists: refusals 9 and 8.
+// Kept: numbers and flags by themselves, as the C interface lends them.
 ghost use Rattle.std.specs.Prelude.{◌≡◌, ◌*◌, ◌≤◌, length};
 ghost use Rattle.path.specs.Shape.{total};
 ghost use Rattle.assembly.specs.Assembled.{place_read, outline_of, outline_shapes};

@@ -1,4 +1,5 @@
 // `cut_corners`, with its refusals: 7, 5, 9 at the index in the cut outline, 8.
+// Kept: anchors and radii by themselves, as the C interface lends them.
 ghost use Rattle.std.specs.Prelude.{◌≡◌, ◌*◌, ◌≤◌, length};
 ghost use Rattle.path.specs.Shape.{total};
 ghost use Rattle.cut_calls.specs.PlainCut.{view_at, cut_up_to, cut_shape};

@@ -1,4 +1,5 @@
 // `reversed`: a subpath passed the other way.
+// Kept: anchors and radii by themselves, as the C interface lends them.
 ghost use Rattle.std.specs.Prelude.{◌≡◌, ◌+◌, ◌*◌, ◌≤◌, length};
 ghost use Rattle.views.specs.View.{tabulate};
 ghost use Rattle.path.specs.Flat.{anchor_at, put_anchor, listed};
@@ -31,12 +32,13 @@ fn exchange(anchors: &mut [f64], u: usize, v: usize)
 }
 
 // Turns the n anchors from place `first` on round, of a path of `all` anchors: each changes places with the one as far from the other end.
+// Kept: the count beside the list, which is lent longer than what it holds.
 fn turn_round(anchors: &mut [f64], all: usize, first: usize, n: usize)
     requires { (all ≤ 512) × (all * 6 ≤ length anchors.old) × (first + n ≤ all) }
     ensures { anchors.new ≡ listed (tabulate all (reversed_anchors (anchor_at anchors.old) first n)) anchors.old }
 {
     let half = (n + 1) / 2;
-    // Kept: by the distance from either end, from which both places are counted.
+    // Kept: by the distance from either end, from which both places are counted; a proof learns only the length of what iter_mut leaves.
     for i in 0..half {
         exchange(anchors, first + i, first + (n - 1 - i));
     }

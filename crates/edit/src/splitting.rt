@@ -71,6 +71,7 @@ pub fn first_out(h: Halved, a: usize, b: usize) -> Option<usize>
 }
 
 // Puts a new anchor into the segment between two places of a path of n anchors.
+// Kept: n beside the list, which is lent longer than what it holds, and here takes one anchor more.
 pub fn put_halves(anchors: &mut [f64], n: usize, a: usize, b: usize, h: Halved)
     requires { (n < 512) × (n * 6 + 6 ≤ length anchors.old) × (a < n) × (b < n) × (a ≡ b → ⊥) }
     ensures { anchors.new ≡ put_anchor (put_anchor (put_anchor (gapped anchors.old (a + 1) n 6) a h.left) (a + 1) h.middle) (shifted a b) h.right }
@@ -90,6 +91,7 @@ pub fn count_up(shapes: &mut [u32], s: usize)
 }
 
 // Splits the segment between two places of a path that passed the tests before: 9 and 8 are left.
+// Kept: n beside the list, whose room for one anchor more is still to be tested.
 fn split_between(
     shapes: &mut [u32],
     anchors: &mut [f64],

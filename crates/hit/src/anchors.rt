@@ -11,11 +11,13 @@ use path::AnchorRef;
 use refusal::Refusal;
 
 // The place of the nearest of n anchors.
+// Kept: n beside the list, which is lent longer than what it holds.
 fn nearest_place(anchors: &[f64], n: usize, q: P, tol: f64) -> Option<usize>
     requires { (n ≤ 512) × (n * 6 ≤ length anchors.now) × (in_limit tol ≡ true) }
     ensures { result ≡ nearest_anchor anchors.now q tol n }
 {
     let mut best = Best::nothing(tol);
+    // Kept: by place, since a chunk of six numbers would have to be read as place 0 of itself, and its number counted beside it.
     for k in 0..n {
         let p = path::anchor_at(anchors, k).p;
         best = best.take(k, p - q, tol);

@@ -51,6 +51,7 @@ fn try_subpath(
     ensures best { result ≡ tried_from tol 48 q anchors.now k n closed best n }
     ensures bar { Barred tol result }
 {
+    // Kept: by index, from which come the test, the curve and the number of its first chord.
     for a in 0..n {
         if path::has_segment(n, closed, a) {
             best = try_curve(path::curve_at(anchors, k, n, a), (k + a) * 48, q, tol, best);

@@ -1,4 +1,5 @@
 // The reader: refusal 1 for the length, then each word in turn, then 8. Nothing lent is written before all of them have passed.
+// Kept: shapes, anchors and radii by themselves, as the C interface lends them; four bytes a word, six numbers an anchor, as a job has them.
 ghost use Rattle.std.specs.Prelude.{◌≡◌, ◌+◌, ◌*◌, ◌≤◌, Ok, length, get_or};
 ghost use Rattle.views.specs.View.{entry};
 ghost use Rattle.job.specs.Words.{word_at, words_of, word_list};

@@ -1,4 +1,5 @@
 // The anchors of two paths that are joined: the drawn ones, the joint, and the rest of the target.
+// Kept: counts beside lists, which are lent longer than what they hold.
 ghost use Rattle.std.specs.Prelude.{◌≡◌, ◌∷◌, ◌++◌, ◌+◌, ◌-◌, ◌*◌, ◌≤◌, ◌<◌, length};
 ghost use Rattle.views.specs.View.{tabulate};
 ghost use Rattle.path.specs.Flat.{anchor_at, put_all, listed};
@@ -6,15 +7,25 @@ ghost use Rattle.joining.specs.Joined.{target_at, target_rest, landed, joint_of}
 
 use path::Anchor;
 
-// Anchor k of the target's n, from its start or from its end.
-pub fn target_at(target: &[f64], n: usize, at_start: bool, k: usize) -> Anchor
-    requires { (k < n) × (n ≤ 512) × (n * 6 ≤ length target.now) }
-    ensures { result ≡ target_at target.now n at_start k }
-{
-    if at_start {
-        path::anchor_at(target, k)
-    } else {
-        edit::turned(path::anchor_at(target, n - 1 - k))
+// The n anchors that are joined onto, from the start of their list or from its end.
+#[derive(Clone, Copy)]
+pub struct Target<'a> {
+    pub anchors: &'a [f64],
+    pub n: usize,
+    pub at_start: bool,
+}
+
+impl<'a> Target<'a> {
+    // Anchor k, from the end at which the target is joined.
+    pub fn anchor(self, k: usize) -> Anchor
+        requires { (k < self.n) × (self.n ≤ 512) × (self.n * 6 ≤ length self.anchors.now) }
+        ensures { result ≡ target_at self.entry.anchors.now self.entry.n self.entry.at_start k }
+    {
+        if self.at_start {
+            path::anchor_at(self.anchors, k)
+        } else {
+            edit::turned(path::anchor_at(self.anchors, self.n - 1 - k))
+        }
     }
 }
 
@@ -41,29 +52,22 @@ pub fn joint_of(drawn: &[f64], count: usize, first: Anchor) -> Anchor
 }
 
 // Puts the anchors of the target after its first, from place `from` on.
-fn put_rest(target: &[f64], n: usize, at_start: bool, from: usize, to: &mut [f64])
-    requires { (0 < n) × (n ≤ 512) × (from ≤ 512) × (n * 6 ≤ length target.now) × ((from + (n - 1)) * 6 ≤ length to.old) }
-    ensures { to.new ≡ put_all to.old from (target_rest target.now n at_start) }
+fn put_rest(target: Target, from: usize, to: &mut [f64])
+    requires { (0 < target.n) × (target.n ≤ 512) × (from ≤ 512) × (target.n * 6 ≤ length target.anchors.now) × ((from + (target.n - 1)) * 6 ≤ length to.old) }
+    ensures { to.new ≡ put_all to.old from (target_rest target.entry.anchors.now target.entry.n target.entry.at_start) }
 {
-    for k in 0..n - 1 {
-        path::put_anchor(to, from + k, target_at(target, n, at_start, k + 1));
+    // Kept: by index, since a proof learns only the length of what chunks_exact_mut leaves.
+    for k in 0..target.n - 1 {
+        path::put_anchor(to, from + k, target.anchor(k + 1));
     }
 }
 
 // Puts the drawn anchors before the joint, the joint, and the rest of the target.
-pub fn put_joined(
-    drawn: &[f64],
-    before: usize,
-    joint: Anchor,
-    target: &[f64],
-    n: usize,
-    at_start: bool,
-    to: &mut [f64],
-)
-    requires { (before ≤ 511) × (before * 6 ≤ length drawn.now) × (0 < n) × (n ≤ 512) × (n * 6 ≤ length target.now) × ((before + n) * 6 ≤ length to.old) }
-    ensures { to.new ≡ listed (tabulate before (anchor_at drawn.now) ++ (joint ∷ target_rest target.now n at_start)) to.old }
+pub fn put_joined(drawn: &[f64], before: usize, joint: Anchor, target: Target, to: &mut [f64])
+    requires { (before ≤ 511) × (before * 6 ≤ length drawn.now) × (0 < target.n) × (target.n ≤ 512) × (target.n * 6 ≤ length target.anchors.now) × ((before + target.n) * 6 ≤ length to.old) }
+    ensures { to.new ≡ listed (tabulate before (anchor_at drawn.now) ++ (joint ∷ target_rest target.entry.anchors.now target.entry.n target.entry.at_start)) to.old }
 {
     views::copy(drawn, before * 6, to);
     path::put_anchor(to, before, joint);
-    put_rest(target, n, at_start, before + 1, to);
+    put_rest(target, before + 1, to);
 }

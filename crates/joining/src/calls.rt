@@ -1,10 +1,11 @@
 // `join`, with its refusals: 7, 5 (the target's places after the drawn ones'), 6, 10, 9, 8.
+// Kept: lists and their counts by themselves, as the C interface lends them, longer than what they hold.
 ghost use Rattle.std.specs.Prelude.{◌≡◌, ◌+◌, ◌*◌, ◌≤◌, length};
 ghost use Rattle.path.specs.Shape.{count_of};
 ghost use Rattle.path.proofs.Limits.{GoodBelow};
 ghost use Rattle.joining.specs.Call.{either_in, join_answer, join_shapes_left, join_anchors_left};
 
-use crate::anchors::{joint_of, put_joined, target_at};
+use crate::anchors::{Target, joint_of, put_joined};
 use crate::limits::{first_bad_either, list_fits};
 use call::Outline;
 use refusal::{Reason, Refusal};
@@ -32,8 +33,13 @@ fn join_opened(
     if before + n > 512 {
         return Err(Reason::Capacity.at(0));
     }
+    let onto = Target {
+        anchors: target,
+        n,
+        at_start,
+    };
+    let joint = joint_of(drawn, count, onto.anchor(0));
     // The other anchors are those given, which passed 5.
-    let joint = joint_of(drawn, count, target_at(target, n, at_start, 0));
     if !joint.in_limit() {
         return Err(Reason::Made.at(before));
     }
@@ -41,7 +47,7 @@ fn join_opened(
         return Err(Reason::Output.at(0));
     }
     to_shapes[0] = path::word(before + n, false);
-    put_joined(drawn, before, joint, target, n, at_start, to);
+    put_joined(drawn, before, joint, onto, to);
     Ok(Outline {
         subpaths: 1,
         anchors: before + n,

@@ -1,4 +1,5 @@
 // The first tests of a join, of two lists without shape words: refusals 7 and 5.
+// Kept: counts beside lists, which are lent longer than what they hold.
 ghost use Rattle.std.specs.Prelude.{◌≡◌, ◌+◌, ◌*◌, ◌≤◌, length};
 ghost use Rattle.path.specs.Limit.{anchor_in, first_bad};
 ghost use Rattle.joining.specs.Call.{list_fits, either_in};

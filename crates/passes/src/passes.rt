@@ -14,6 +14,7 @@ use places::lay_places;
 
 // Writes each place within reach, and its flag, to the lists of the path's places. The answer is how many. What `rows` and `cuts` are
 // lent for ends with the call.
+// Kept: each list by itself, as the passes are lent them, and as the C interface has numbers and flags.
 pub fn recut(
     anchors: &[f64],
     radii: &[f64],

@@ -4,14 +4,15 @@ ghost use Rattle.decimal.specs.Put.{Put};
 ghost use Rattle.printing.specs.Printed.{printed};
 
 use crate::drawing_line::put_drawing;
-use crate::refused::{put_refusal, put_refused};
+use crate::refused::put_refusal;
+use refusal::Reason;
 
 // Puts what `patch` prints for a job, less the newline. The answer is how many bytes.
 pub fn print(bytes: &[u8], out: &mut [u8; 65536]) -> usize
     ensures { Put out.old 0 (printed bytes.now) out.new result }
 {
     if bytes.len() > 32768 {
-        return put_refused(out, 1, 8192);
+        return put_refusal(out, Reason::Unended.at(8192));
     }
     let mut shapes = [0u32; 32];
     let mut anchors = [0.0f64; 3072];

@@ -19,6 +19,7 @@ pub fn add_refused(text: &mut Text<'_>, number: u32, place: usize)
 }
 
 // Puts it at the start of a list.
+// Kept: number and place, beside `put_refusal`, since a caller may have them from elsewhere; a `Refusal` alone would ask more.
 pub fn put_refused(out: &mut [u8], number: u32, place: usize) -> usize
     ensures { Put out.old 0 (refused_text number place) out.new result }
 {

@@ -6,13 +6,14 @@ use mathlib.Core.List.{List}
 use Prim.Native.Nat.{ℕ, ◌+◌, ◌-◌, ◌*◌, ◌/◌, ◌%◌, ◌≤◌, ◌<◌}
 use native.Mathlib.Omega.{arith}
 use lib.Dec.{leb, ltb}
+use Rattle.std.proofs.Common.{Option, Some, None}
+use Rattle.std.specs.Option.{MatchOption}
 use lib.ListN.{length, get_or}
 use lib.Ieee.{Float, nan}
-use borrow.Author.Count.{below_more}
 use borrow.Author.Tests.{leb-true, ltb-true, lt-leb}
 use Rattle.views.specs.View.{entry}
 use Rattle.views.specs.Search.{all}
-use Rattle.views.proofs.Bools.{both, or_true}
+use Rattle.views.proofs.Bools.{both}
 use Rattle.views.proofs.Laws.{order, same, as_tabulate}
 use Rattle.views.proofs.Searches.{all_cong, first_cong}
 use Rattle.real.specs.Limit.{in_limit}
@@ -20,9 +21,10 @@ use Rattle.path.specs.declared.anchor.Anchor.{Anchor}
 use Rattle.path.specs.Flat.{anchor_at, put_anchor}
 use Rattle.path.specs.Limit.{first_bad}
 use Rattle.path.proofs.Places.{at_put, at_put_other}
-use Rattle.path.proofs.Limits.{GoodBelow}
+use Rattle.path.proofs.Limits.{GoodBelow, first_is, none_is}
 use Rattle.cut.specs.declared.subpath.Sub.{Sub}
 use Rattle.cut.specs.declared.subpath.Window.{Window}
+use Rattle.cut.specs.declared.subpath.Indices.{Indices}
 use Rattle.cut.specs.View.{View}
 use Rattle.cut.specs.Near.{near, span_of}
 use Rattle.cut.specs.Places.{is_cut, place_at, place_numbers}
@@ -96,23 +98,45 @@ module _ (sub : Sub) (w : Window) where
     pub pass_end : w.at < sub.n → GoodBelow (passes_near sub w t) (sub.first + (span_of w.reach sub.n sub.closed w.at).to) → GoodBelow (passes_near sub w t) (sub.first + sub.n)
     pass_end h = idle (span_of w.reach sub.n sub.closed w.at).to sub.n (omega arith) (λ j x y. after-span w.reach sub.n sub.closed w.at j y x)
 
-    module _ (j : ℕ) (l : j < sub.n) where
-      more : passes_near sub w t (sub.first + j) ≡ true → GoodBelow (passes_near sub w t) (sub.first + j) → GoodBelow (passes_near sub w t) (sub.first + (j + 1))
-      more e g k h = below_more (λ i. passes_near sub w t i ≡ true) (sub.first + j) g e k (omega arith)
+  -- ---- the first place within reach whose index fails a test
+  module _ (t : ℕ → Bool) where
+    abbrev passes : ℕ → Bool
+    passes = passes_near sub w (λ k. t (k - sub.first))
 
-      pub pass_skip : near w.reach sub.n sub.closed w.at j ≡ false → GoodBelow (passes_near sub w t) (sub.first + j) → GoodBelow (passes_near sub w t) (sub.first + (j + 1))
-      pass_skip e g = more (far_good j l e) g
+    passes-index : (j : ℕ) → j < sub.n → passes (sub.first + j) ≡ (not (near w.reach sub.n sub.closed w.at j) || t j)
+    unfolding passes_near
+    passes-index j l = let e : sub.first + j - sub.first ≡ j = omega arith in rw (reached-index sub w j l, e)
 
-      good : t (sub.first + j) ≡ true → passes_near sub w t (sub.first + j) ≡ true
-      unfolding passes_near
-      good e = rw e (or_true (not (reached_in sub w (sub.first + j))))
+    fine : (j : ℕ) → j < sub.n → (near w.reach sub.n sub.closed w.at j ≡ true → t j ≡ true) → passes (sub.first + j) ≡ true
+    fine j l h = passes-index j l ∙ go (near w.reach sub.n sub.closed w.at j) refl
+      where
+        go : (b : Bool) → near w.reach sub.n sub.closed w.at j ≡ b → (not b || t j) ≡ true
+        go true e = h e
+        go false e = refl
 
-      pub pass_more : t (sub.first + j) ≡ true → GoodBelow (passes_near sub w t) (sub.first + j) → GoodBelow (passes_near sub w t) (sub.first + (j + 1))
-      pass_more e g = more (good e) g
+    pass_to : (m : ℕ) → w.at < sub.n → m ≤ sub.n → ((j : ℕ) → (span_of w.reach sub.n sub.closed w.at).from ≤ j → j < m → near w.reach sub.n sub.closed w.at j ≡ true → t j ≡ true)
+        → GoodBelow passes (sub.first + m)
+    pass_to m h l good k q =
+        ⊎_elim
+        (λ (x : sub.first + (span_of w.reach sub.n sub.closed w.at).from ≤ k).
+        let e : sub.first + (k - sub.first) ≡ k = omega arith in rw e at (fine (k - sub.first) (omega arith) (good (k - sub.first) (omega arith) (omega arith))))
+        (λ (x : k < sub.first + (span_of w.reach sub.n sub.closed w.at).from). pass_none (λ k. t (k - sub.first)) h k x)
+        (order (sub.first + (span_of w.reach sub.n sub.closed w.at).from) k)
 
-      pub pass_bad : near w.reach sub.n sub.closed w.at j ≡ true → t (sub.first + j) ≡ false → passes_near sub w t (sub.first + j) ≡ false
-      unfolding passes_near
-      pass_bad h e = rw (e, reached-index sub w j l, h)
+    -- what a search of the span finds
+    pub bad_found : (there : Indices) → there ≡ span_of w.reach sub.n sub.closed w.at → w.at < sub.n → (r : Option ℕ)
+        → MatchOption r
+        ((k : ℕ) → there.from ≤ k → k < there.to → near w.reach sub.n sub.closed w.at k ≡ true → t k ≡ true)
+        (λ i. (there.from ≤ i) × (i < there.to) × ((near w.reach sub.n sub.closed w.at i ≡ true) × (t i ≡ false)) × ((k : ℕ) → there.from ≤ k → k < i → near w.reach sub.n sub.closed w.at k ≡ true → t k ≡ true))
+        → MatchOption r (None ≡ first_bad passes (sub.first + sub.n)) (λ i. (i < sub.n) × (Some (sub.first + i) ≡ first_bad passes (sub.first + sub.n)))
+    bad_found there e h None good =
+        let o = span-order h in
+        sym ((none_is _ _).1 (pass_end (λ k. t (k - sub.first)) h (pass_to (span_of w.reach sub.n sub.closed w.at).to h o.1 (rw e at good))))
+    bad_found there e h (Some i) (low, high, bad, good) =
+        let o = span-order h in
+        let to = ap (λ z. z.to) e in
+        let b : i < sub.n = omega (arith, o.1) in
+        (b, sym ((first_is _ _ _).1 (record { place = omega arith; bad = passes-index i b ∙ rw (bad.0, bad.1); below = pass_to i h (omega arith) (rw e at good) })))
 
   -- ---- a place within reach is an index of the subpath
   pub record At (k : ℕ) : Type 0 where

@@ -3,7 +3,6 @@
 
 mod plans;
 mod stretches;
-mod testing;
 
 pub use plans::{Plan, plan_put, plan_recut, write_places};
 pub use stretches::{Gathered, Stretch, gather, rolled, stretch_of};

@@ -1,4 +1,5 @@
 // The places within reach recut in a stretch, tested, and then written: a plan is made from lists that are only read.
+// Kept: anchors and radii, numbers and flags by themselves, as the C interface lends them.
 ghost use Rattle.std.specs.Prelude.{◌≡◌, IfOk, ℕ, ◌+◌, ◌-◌, ◌*◌, ◌≤◌, ◌<◌, length, true, false};
 ghost use Rattle.path.specs.Limit.{first_bad};
 ghost use Rattle.cache.specs.Tests.{twelve_in};
@@ -11,13 +12,13 @@ ghost use Rattle.recutting.specs.Near.{passes_near};
 ghost use Rattle.recutting.specs.Stretch.{About, Stretched, HoldsNumbers, HoldsFlags, Decides, Put};
 
 use crate::stretches::{Stretch, gather, rolled, stretch_of};
-use crate::testing::place_in;
 use corner::CornerKind;
 use cut::{Sub, Window};
 use path::Anchor;
 use refusal::{Reason, Refusal};
 
 // How many places are recut, how many anchors there then are, and the places of the stretch, which starts at index `from` of its subpath.
+// Kept: numbers and flags in two lists, as the passes write them.
 #[derive(Drop)]
 pub struct Plan {
     pub count: usize,
@@ -33,18 +34,12 @@ fn first_bad(sub: Sub, w: Window, from: usize, numbers: &[f64]) -> Option<usize>
     requires by_index { (i : ℕ) → i < sub.n → near w.reach sub.n sub.closed w.at i ≡ true → rolled sub.n from i * 12 + 12 ≤ length numbers.now }
     ensures { result ≡ first_bad (passes_near sub w (λ k. twelve_in numbers.now (rolled sub.n from (k - sub.first)))) (sub.first + sub.n) }
 {
-    let first = sub.first;
-    let n = sub.n;
-    let there = cut::span(w.reach, n, sub.closed, w.at);
-    for i in there.from..there.to {
-        if !cut::near(w.reach, n, sub.closed, w.at, i) {
-            continue;
-        }
-        if !place_in(numbers, rolled(n, from, i)) {
-            return Some(first + i);
-        }
-    }
-    None
+    let there = cut::span(w.reach, sub.n, sub.closed, w.at);
+    let i = (there.from..there.to).find(|&i| {
+        cut::near(w.reach, sub.n, sub.closed, w.at, i)
+            && !cache::place_in_limit(numbers, rolled(sub.n, from, i))
+    })?;
+    Some(sub.first + i)
 }
 
 // Recuts the places within reach in the stretch s, whose anchors and radii are lent, and tests them: 9. There will be `total` anchors.
@@ -61,11 +56,11 @@ pub fn plan_recut(
     requires anchors_len { (length anchors.now ≡ 90) × (length radii.now ≡ 15) }
     ensures { IfOk result (λ p. p.total ≡ total) × ((v : View) → Stretched v kind sub s anchors.now radii.now → Decides v sub w result) }
 {
+    // Kept: four lists of scratch, as the passes are lent them one by one.
     let mut rows = [None; 15];
     let mut cuts = [None; 15];
     let mut numbers = [0.0f64; 180];
     let mut flags = [0u32; 15];
-    let from = s.from;
     let count = passes::recut(
         anchors,
         radii,
@@ -84,12 +79,12 @@ pub fn plan_recut(
         &mut numbers,
         &mut flags,
     );
-    match first_bad(sub, w, from, &numbers) {
+    match first_bad(sub, w, s.from, &numbers) {
         Some(k) => Err(Reason::Made.at(k)),
         None => Ok(Plan {
             count,
             total,
-            from,
+            from: s.from,
             numbers,
             flags,
         }),
@@ -111,13 +106,10 @@ pub fn plan_put(
     ensures { IfOk result (λ p. p.total ≡ total) × ((v : View) → Put v kind sub w.at new radius anchors.now radii.now → Decides v sub w result) }
 {
     let s = stretch_of(sub, w);
-    let g = gather(anchors, radii, sub, s, sub.n);
-    let mid = s.mid;
-    let mut held = g.anchors;
-    let mut rounds = g.radii;
-    path::put_anchor(&mut held, mid, new);
-    rounds[mid] = radius;
-    plan_recut(&held, &rounds, kind, sub, w, s, total)
+    let mut g = gather(anchors, radii, sub, s, sub.n);
+    path::put_anchor(&mut g.anchors, s.mid, new);
+    g.radii[s.mid] = radius;
+    plan_recut(&g.anchors, &g.radii, kind, sub, w, s, total)
 }
 
 // The twelve numbers of place j of a list, put at place k of another.
@@ -145,15 +137,15 @@ pub fn write_places(
     ensures numbers { (v : View) → (v.n ≡ sub.n) × (v.closed ≡ sub.closed) × HoldsNumbers v sub w from made.now → numbers.new ≡ recut_numbers v sub.first w.reach w.at numbers.old }
     ensures flags { (v : View) → (v.n ≡ sub.n) × (v.closed ≡ sub.closed) × HoldsFlags v sub w from marks.now → flags.new ≡ recut_flags v sub.first w.reach w.at flags.old }
 {
-    let first = sub.first;
-    let n = sub.n;
-    let there = cut::span(w.reach, n, sub.closed, w.at);
+    let there = cut::span(w.reach, sub.n, sub.closed, w.at);
+    // Kept: by index, since a proof learns only the length of what iter_mut leaves.
     for i in there.from..there.to {
-        if !cut::near(w.reach, n, sub.closed, w.at, i) {
+        if !cut::near(w.reach, sub.n, sub.closed, w.at, i) {
             continue;
         }
-        let j = rolled(n, from, i);
-        put_place(made, j, first + i, numbers);
-        flags[first + i] = marks[j];
+        let j = rolled(sub.n, from, i);
+        let k = sub.first + i;
+        put_place(made, j, k, numbers);
+        flags[k] = marks[j];
     }
 }

@@ -1,10 +1,11 @@
 // A stretch of a subpath about a window: at most 15 anchors in a row, round the end where the subpath is closed; all of a subpath that has no more.
+// Kept: anchors and radii by themselves, as the C interface lends them.
 ghost use Rattle.std.specs.Prelude.{◌≡◌, ℕ, ◌+◌, ◌-◌, ◌*◌, ◌≤◌, ◌<◌, length};
 ghost use Rattle.cut.specs.Near.{old};
 ghost use Rattle.cut.specs.Unrolled.{unrolled, rolled};
 ghost use Rattle.recutting.specs.Stretch.{About, From};
 
-use cut::{Sub, Window};
+use cut::{Indices, Sub, Window};
 
 // The subpath's index at which it starts, how many anchors it has, whether it is a whole closed subpath, and its index about which the window is.
 #[derive(Clone, Copy)]
@@ -20,34 +21,30 @@ pub fn stretch_of(sub: Sub, w: Window) -> Stretch
     requires { (w.at < sub.n) × (w.reach ≤ 4) × (sub.n ≤ 1024) }
     ensures { About sub w result }
 {
-    let n = sub.n;
-    let at = w.at;
     let side = w.reach + 3;
-    let closed = sub.closed;
-    if n <= 15 {
+    if sub.n <= 15 {
         return Stretch {
             from: 0,
-            n: n,
-            closed: closed,
-            mid: at,
+            n: sub.n,
+            closed: sub.closed,
+            mid: w.at,
         };
     }
-    if closed {
-        // `side` steps back from `at`, round the end
+    if sub.closed {
+        // `side` steps back from `w.at`, round the end
         return Stretch {
-            from: rolled(n, side, at),
+            from: rolled(sub.n, side, w.at),
             n: 2 * side + 1,
             closed: false,
             mid: side,
         };
     }
-    let there = cut::span(side, n, false, at);
-    let from = there.from;
+    let Indices { from, to } = cut::span(side, sub.n, false, w.at);
     Stretch {
-        from: from,
-        n: there.to - from,
+        from,
+        n: to - from,
         closed: false,
-        mid: at - from,
+        mid: w.at - from,
     }
 }
 
@@ -74,6 +71,7 @@ fn stood(gap: usize, i: usize) -> usize
 }
 
 // Six numbers an anchor, and its radius.
+// Kept: two lists, as the passes are lent them.
 #[derive(Drop)]
 pub struct Gathered {
     pub anchors: [f64; 90],
@@ -86,19 +84,15 @@ pub fn gather(anchors: &[f64], radii: &[f64], sub: Sub, s: Stretch, gap: usize) 
     requires by_index { (i : ℕ) → i < sub.n → ((sub.first + old gap i) * 6 + 6 ≤ length anchors.now) × (sub.first + old gap i < length radii.now) × (sub.first + old gap i ≤ 1024) }
     ensures { From anchors.now radii.now sub s gap result }
 {
-    let mut a = [0.0f64; 90];
-    let mut r = [0.0f64; 15];
-    let first = sub.first;
-    let n = sub.n;
-    let from = s.from;
-    let m = s.n;
-    for j in 0..m {
-        let i = stood(gap, unrolled(n, from, j));
-        path::put_anchor(&mut a, j, path::anchor_at(anchors, first + i));
-        r[j] = radii[first + i];
+    let mut g = Gathered {
+        anchors: [0.0f64; 90],
+        radii: [0.0f64; 15],
+    };
+    // Kept: by index, since a proof learns only the length of what iter_mut leaves.
+    for j in 0..s.n {
+        let i = sub.first + stood(gap, unrolled(sub.n, s.from, j));
+        path::put_anchor(&mut g.anchors, j, path::anchor_at(anchors, i));
+        g.radii[j] = radii[i];
     }
-    Gathered {
-        anchors: a,
-        radii: r,
-    }
+    g
 }

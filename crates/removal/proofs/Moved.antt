@@ -7,11 +7,13 @@ use Prim.Native.Nat.{ℕ, zero, suc, ◌+◌, ◌*◌, ◌≤◌, ◌<◌}
 use native.Mathlib.Nat.{le_refl}
 use native.Mathlib.Numerals.{add-one}
 use native.Mathlib.Omega.{arith}
-use lib.ListN.{length, get_or, set, length-set, length-append, get_or-append}
+use lib.ListN.{length, get_or, set, take, drop, length-set, length-append, get_or-append}
+use Rattle.std.proofs.lemmas.List.{length-take-le, get_or-take, length-drop, get_or-drop}
 use lib.Seq.{get_or_at}
 use lib.Ieee.{Float, nan}
 use Rattle.views.specs.View.{entry, overwrite}
 use Rattle.views.specs.Search.{count}
+use Rattle.views.proofs.Searches.{count_cong}
 use Rattle.views.proofs.Laws.{order, fill_more, keep_more, as_overwrite, past_overwrite}
 use Rattle.path.specs.declared.anchor.Anchor.{Anchor}
 use Rattle.path.specs.Flat.{anchor_at, put_anchor, put_all, listed}
@@ -37,7 +39,7 @@ put_one xs ys k a b e f = e ∙ ap (put_anchor xs k) f
 -- ---- of the first i anchors from place `first` on, those that are kept moved to `at`: the next goes to `next`
 module _ (gone : List Bool) (xs : List Float) (first at : ℕ) where
   abbrev here : ℕ → List Anchor
-  here = retained (λ k. kept_at gone (first + k)) (λ k. anchor_at xs (first + k))
+  here = retained (kept_at gone) (λ k. anchor_at xs (first + k))
 
   abbrev pub MovedTo : List Float → ℕ → ℕ → Type 0
   MovedTo ys next i =
@@ -48,15 +50,15 @@ module _ (gone : List Bool) (xs : List Float) (first at : ℕ) where
   moved_none l = (omega arith, refl, omega arith, refl, λ j h. refl)
 
   module _ (ys : List Float) (next i : ℕ) (m : MovedTo ys next i) where
-    pub moved_gone : get_or gone (first + i) false ≡ true → MovedTo ys next (i + 1)
+    pub moved_gone : get_or gone i false ≡ true → MovedTo ys next (i + 1)
     moved_gone g =
-        let e = retained_gone (λ k. kept_at gone (first + k)) (λ k. anchor_at xs (first + k)) i (ap not g) in
+        let e = retained_gone (kept_at gone) (λ k. anchor_at xs (first + k)) i (ap not g) in
         (omega (arith, m.0), m.1, rw e m.2, rw e m.3, m.4)
 
-    pub moved_kept : get_or gone (first + i) false ≡ false → (zs : List Float) → zs ≡ put_anchor ys next (anchor_at ys (first + i)) → MovedTo zs (next + 1) (i + 1)
+    pub moved_kept : get_or gone i false ≡ false → (zs : List Float) → zs ≡ put_anchor ys next (anchor_at ys (first + i)) → MovedTo zs (next + 1) (i + 1)
     moved_kept g zs p =
         let f = anchor_at xs (first + i) in
-        let e = retained_kept (λ k. kept_at gone (first + k)) (λ k. anchor_at xs (first + k)) i (ap not g) in
+        let e = retained_kept (kept_at gone) (λ k. anchor_at xs (first + k)) i (ap not g) in
         let n = ap length e ∙ length-append (here i) (f ∷ []) in (
           omega (arith, m.0),
           ap length p ∙ length-put ys next _ ∙ m.1,
@@ -206,16 +208,27 @@ module _ (shapes : List ℕ) (anchors : List Float) (keep : ℕ → ℕ → Bool
       (rw (h.words_count, h.anchors_count), held-words m ws n xs at h (le_refl m) long, held_anchors m ws n xs at h (le_refl m) long)
 
 -- ---- a subpath by its marks: what is counted, and what is moved, is what is left of it
-module _ (shapes : List ℕ) (anchors : List Float) (gone : List Bool) (s first m : ℕ) (e : first ≡ start shapes s) (f : m ≡ count_of (word_at shapes s)) where
-  pub left-count : count (λ k. kept_at gone (first + k)) m ≡ length (subpath_left shapes anchors (kept_in shapes gone) s)
+module _ (shapes : List ℕ) (anchors : List Float) (gone : List Bool) (s first m : ℕ) (e : first ≡ start shapes s) (f : m ≡ count_of (word_at shapes s))
+    (marks : List Bool) (part : marks ≡ take m (drop first gone)) (room : first + m ≤ length gone) where
+  pub as_many : length marks ≡ m
+  as_many = ap length part ∙ length-take-le m (drop first gone) (rw (length-drop first gone) (omega arith))
+
+  alike : (k : ℕ) → k < m → kept_at marks k ≡ kept_at gone (first + k)
+  alike k l = ap (λ z. kept_at z k) part ∙ ap not (get_or-take m (drop first gone) k false l ∙ get_or-drop first gone k false)
+
+  pub left-count : count (kept_at marks) (length marks) ≡ length (subpath_left shapes anchors (kept_in shapes gone) s)
   unfolding subpath_left kept_in
-  left-count = rw (e, f) (sym (retained-count (λ k. kept_at gone (start shapes s + k)) (λ k. anchor_at anchors (start shapes s + k)) (count_of (word_at shapes s))))
+  left-count =
+      rw as_many
+      (count_cong _ _ m alike
+      ∙ rw (e, f) (sym (retained-count (λ k. kept_at gone (start shapes s + k)) (λ k. anchor_at anchors (start shapes s + k)) (count_of (word_at shapes s)))))
 
   pub left-moved : (xs : List Float) (at : ℕ) → at ≤ first → ((j : ℕ) → at * 6 ≤ j → entry xs j ≡ entry anchors j)
-      → retained (λ k. kept_at gone (first + k)) (λ k. anchor_at xs (first + k)) m ≡ subpath_left shapes anchors (kept_in shapes gone) s
+      → retained (kept_at marks) (λ k. anchor_at xs (first + k)) (length marks) ≡ subpath_left shapes anchors (kept_in shapes gone) s
   unfolding subpath_left kept_in
   left-moved xs at l past =
-      retained-same _ _ _ (λ k. anchor_at anchors (first + k)) m (λ k b. refl) (λ k b. at_past xs anchors at (first + k) (omega arith) past) ∙ rw (e, f)
+      rw as_many
+      (retained-same _ (λ k. kept_at gone (first + k)) _ (λ k. anchor_at anchors (first + k)) m alike (λ k b. at_past xs anchors at (first + k) (omega arith) past) ∙ rw (e, f))
 
 -- ---- what is kept turns on the anchors of the path alone
 module _ (shapes : List ℕ) (anchors : List Float) (keep keep' : ℕ → ℕ → Bool)

@@ -6,12 +6,11 @@ use Prim.Native.Nat.{ℕ, zero, suc, ◌+◌, ◌≤◌, ◌<◌}
 use native.Mathlib.Nat.{le_refl}
 use native.Mathlib.Numerals.{add-one}
 use native.Mathlib.Omega.{arith}
-use lib.ListN.{length, get_or, take, drop, length-append}
+use lib.ListN.{length, get_or, length-append}
 use Rattle.std.specs.List.{count_by}
-use Rattle.std.proofs.lemmas.List.{length-take-le, get_or-take, length-drop, get_or-drop}
 use Rattle.std.proofs.lemmas.List.Sums.{sum_by-cons}
 use Rattle.views.specs.Search.{count}
-use Rattle.views.proofs.Searches.{count_more, count_same, count_cong}
+use Rattle.views.proofs.Searches.{count_more, count_same}
 use Rattle.path.specs.declared.anchor.Anchor.{Anchor}
 use Rattle.removal.specs.Deleted.{retained}
 
@@ -59,7 +58,7 @@ retained-same keep keep' f f' (suc n) g h =
     rw (g n (le_refl (suc n)), h n (le_refl (suc n)), retained-same keep keep' f f' n (λ k l. g k (omega arith)) (λ k l. h k (omega arith)))
 
 -- ---- the places of a list that pass, as an iterator over it counts them
-count_listed : (d : Bool) (p : Bool → Bool) (xs : List Bool) → count_by p xs ≡ count (λ i. p (get_or xs i d)) (length xs)
+pub count_listed : (d : Bool) (p : Bool → Bool) (xs : List Bool) → count_by p xs ≡ count (λ i. p (get_or xs i d)) (length xs)
 unfolding count
 count_listed d p [] = refl
 count_listed d p (x ∷ xs) = sum_by-cons (λ y. cond (p y) 1 0) x xs ∙ go (p x) (count_listed d p xs)
@@ -67,11 +66,3 @@ count_listed d p (x ∷ xs) = sum_by-cons (λ y. cond (p y) 1 0) x xs ∙ go (p 
     go : (b : Bool) → {m n : ℕ} → m ≡ n → cond b 1 0 + m ≡ cond b (suc n) n
     go true e = omega arith
     go false e = omega arith
-
--- those of its n from place a on
-pub count_dropped : (d : Bool) (p : Bool → Bool) (xs : List Bool) (a n : ℕ) → a + n ≤ length xs → count_by p (take n (drop a xs)) ≡ count (λ i. p (get_or xs (a + i) d)) n
-count_dropped d p xs a n h =
-    let room : n ≤ length (drop a xs) = rw (length-drop a xs) (omega arith) in
-    count_listed d p (take n (drop a xs))
-    ∙ ap (count (λ i. p (get_or (take n (drop a xs)) i d))) (length-take-le n (drop a xs) room)
-    ∙ count_cong _ _ n (λ k l. ap p (get_or-take n (drop a xs) k d l ∙ get_or-drop a xs k d))

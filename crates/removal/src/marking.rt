@@ -12,6 +12,7 @@ fn fill_starts(shapes: &[u32], starts: &mut [usize])
     ensures { starts.new ≡ overwrite (length shapes.now) (start shapes.now) starts.old }
 {
     let mut first = 0;
+    // Kept: the sum and the index by hand, since a proof learns only the length of what iter_mut leaves.
     for (s, word) in shapes.iter().enumerate() {
         starts[s] = first;
         first += path::count_of(*word);

@@ -9,23 +9,23 @@ ghost use Rattle.removal.specs.Marks.{kept_at, kept_in};
 
 use call::Outline;
 
-// How many of the n anchors from place `first` on are kept.
-fn count_kept(gone: &[bool], first: usize, n: usize) -> usize
-    requires { (first + n ≤ 512) × (first + n ≤ length gone.now) }
-    ensures { result ≡ count (λ k. kept_at gone.now (first + k)) n }
+// How many anchors are kept.
+fn count_kept(gone: &[bool]) -> usize
+    ensures { result ≡ count (kept_at gone.now) (length gone.now) }
 {
-    gone[first..first + n].iter().filter(|mark| !**mark).count()
+    gone.iter().filter(|mark| !**mark).count()
 }
 
-// Puts those of the n anchors from place `first` on that are kept to place `at` and after it. No place is written before it is read.
-fn move_kept(anchors: &mut [f64], gone: &[bool], first: usize, n: usize, at: usize)
-    requires { (first + n ≤ 512) × (first + n ≤ length gone.now) × ((first + n) * 6 ≤ length anchors.old) × (at ≤ first) }
-    ensures { anchors.new ≡ put_all anchors.old at (retained (λ k. kept_at gone.now (first + k)) (λ k. anchor_at anchors.old (first + k)) n) }
+// Puts those that are kept, of the anchors from place `first` on, to place `at` and after it. No place is written before it is read.
+fn move_kept(anchors: &mut [f64], gone: &[bool], first: usize, at: usize)
+    requires { (first + length gone.now ≤ 512) × ((first + length gone.now) * 6 ≤ length anchors.old) × (at ≤ first) }
+    ensures { anchors.new ≡ put_all anchors.old at (retained (kept_at gone.now) (λ k. anchor_at anchors.old (first + k)) (length gone.now)) }
 {
     let mut next = at;
-    for k in first..first + n {
-        if !gone[k] {
-            let a = path::anchor_at(anchors, k);
+    // Kept: the next place by hand, since the anchors move down in the list that is read.
+    for (k, mark) in gone.iter().enumerate() {
+        if !*mark {
+            let a = path::anchor_at(anchors, first + k);
             path::put_anchor(anchors, next, a);
             next += 1;
         }
@@ -49,13 +49,14 @@ pub fn move_down(shapes: &mut [u32], anchors: &mut [f64], gone: &[bool]) -> Outl
     let mut first = 0;
     let mut at = 0;
     let mut words = 0;
-    // Kept: by index, since the words move down in the list that is read.
+    // Kept: by index, with three sums by hand, since the words move down in the list that is read.
     for s in 0..shapes.len() {
         let n = path::count_of(shapes[s]);
         let closed = path::closed_of(shapes[s]);
-        let left = count_kept(gone, first, n);
+        let marks = &gone[first..first + n];
+        let left = count_kept(marks);
         if suffices(closed, left) {
-            move_kept(anchors, gone, first, n, at);
+            move_kept(anchors, marks, first, at);
             shapes[words] = path::word(left, closed);
             words += 1;
             at += left;

@@ -1,3 +1,4 @@
+pub mod Known
 pub mod Stages
 pub mod Bounds
 pub mod Dispatch

@@ -61,7 +61,7 @@ answers-none f [] = refl
 answers-none f (x ∷ xs) = refl
 
 -- one answer more: its five words, behind those before
-five-words : (e : Result Edited Refusal) (shapes : List ℕ) (s : ℕ) → length (answer_words e shapes s) ≡ 5
+pub five-words : (e : Result Edited Refusal) (shapes : List ℕ) (s : ℕ) → length (answer_words e shapes s) ≡ 5
 unfolding answer_words told stands
 five-words (Err why) shapes s = refl
 five-words (Ok x) shapes s = refl

@@ -1,3 +1,4 @@
+pub mod Kinds
 pub mod Encoding
 pub mod Replay
 pub mod Claim

@@ -1,4 +1,5 @@
 // `replay`: 7, 5, 9, then every call.
+// Kept: numbers and flags, anchors and radii, codes and values by themselves, as the C interface lends them.
 ghost use Rattle.std.specs.Prelude.{◌≡◌, ℕ, Ok};
 ghost use Rattle.cached.specs.Opening.{lent};
 ghost use Rattle.refusal.specs.Order.{refused};

@@ -1,30 +1,24 @@
 // The tests of the calls' own lists.
+// Kept: codes, values and answers by themselves, as the C interface lends them.
 ghost use Rattle.std.specs.Prelude.{◌≡◌};
 ghost use Rattle.replay.specs.Encoding.{calls_fit, calls_known};
 
-// Whole calls, six numbers and room for five words each. Divided, so that no product wraps.
+use crate::kind::CallKind;
+
+// Whole calls, six numbers and room for five words each. No product wraps, since no list takes 2^63 bytes.
+#[tactic(auto, unfolding(crate::specs::Encoding::calls_fit))]
 pub fn calls_fit(codes: &[u32], values: &[f64], answers: &[u32]) -> bool
     ensures { result ≡ calls_fit codes.now values.now answers.now }
 {
-    if codes.len() % 3 != 0 {
-        return false;
-    }
     let m = codes.len() / 3;
-    if values.len() / 6 < m {
-        return false;
-    }
-    m <= answers.len() / 5
+    codes.len() % 3 == 0 && m * 6 <= values.len() && m * 5 <= answers.len()
 }
 
 // Whether each call is a move, a radius or a split.
 pub fn calls_known(codes: &[u32]) -> bool
     ensures { result ≡ calls_known codes.now }
 {
-    let m = codes.len() / 3;
-    for j in 0..m {
-        if codes[j * 3] > 2 {
-            return false;
-        }
-    }
-    true
+    codes
+        .chunks_exact(3)
+        .all(|call| CallKind::try_from(call[0]).is_ok())
 }

@@ -1,5 +1,5 @@
 // The last text: the outline that a cache holds.
-ghost use Rattle.std.specs.Prelude.{◌≡◌, length};
+// Kept: numbers and flags by themselves, as `assemble` takes them.
 ghost use Rattle.decimal.specs.Put.{Put};
 ghost use Rattle.printing.specs.Printed.{fitted};
 ghost use Rattle.reporting.specs.Gathered.{held_text, Gathers};
@@ -7,8 +7,8 @@ ghost use Rattle.reporting.specs.Gathered.{held_text, Gathers};
 use printing::{put_path, put_refusal};
 
 // Puts the path data of the outline that a cache holds, or the refusal of a text that is too long.
-pub fn put_outline(shapes: &[u32], numbers: &[f64], flags: &[u32], out: &mut [u8]) -> usize
-    requires { Gathers shapes.now numbers.now flags.now × (length out.old ≡ 65536) }
+pub fn put_outline(shapes: &[u32], numbers: &[f64], flags: &[u32], out: &mut [u8; 65536]) -> usize
+    requires { Gathers shapes.now numbers.now flags.now }
     ensures { Put out.old 0 (fitted (held_text shapes.now numbers.now flags.now)) out.new result }
 {
     let mut words = [0u32; 32];

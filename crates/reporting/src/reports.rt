@@ -1,4 +1,5 @@
 // What is printed for a drawing and a list of calls.
+// Kept: lists by themselves, and the kind by its number, as `replay` takes them.
 ghost use Rattle.std.specs.Prelude.{◌≡◌, ◌*◌, ◌/◌, ◌%◌, ◌≤◌, length};
 ghost use Rattle.decimal.specs.Put.{Put};
 ghost use Rattle.cache.proofs.Accepted.{Drawn};
@@ -41,11 +42,10 @@ fn report_drawing(
     codes: &[u32],
     values: &[f64],
     lines: &mut [u8],
-    out: &mut [u8],
+    out: &mut [u8; 65536],
 ) -> Reported
     requires drawing { Drawn shapes.old anchors.old radii.old kind × (length anchors.old ≡ 3072) × (length radii.old ≡ 512) }
     requires calls { (length codes.now % 3 ≡ 0) × (length codes.now ≤ 768) × (length codes.now / 3 * 6 ≤ length values.now) }
-    requires room { length out.old ≡ 65536 }
     ensures lines { Put lines.old 0 (drawing_report (calls_known codes.now) (calls_of codes.now values.now) (drawing shapes.old anchors.old radii.old kind)).lines lines.new result.lines }
     ensures text { Put out.old 0 (drawing_report (calls_known codes.now) (calls_of codes.now values.now) (drawing shapes.old anchors.old radii.old kind)).text out.new result.text }
     ensures room { (result.lines ≤ 10752) × (result.text ≤ 65536) }
@@ -78,10 +78,9 @@ fn report_job(
     codes: &[u32],
     values: &[f64],
     lines: &mut [u8],
-    out: &mut [u8],
+    out: &mut [u8; 65536],
 ) -> Reported
     requires calls { (length codes.now % 3 ≡ 0) × (length codes.now ≤ 768) × (length codes.now / 3 * 6 ≤ length values.now) }
-    requires room { length out.old ≡ 65536 }
     ensures lines { Put lines.old 0 (job_report (calls_known codes.now) (calls_of codes.now values.now) bytes.now).lines lines.new result.lines }
     ensures text { Put out.old 0 (job_report (calls_known codes.now) (calls_of codes.now values.now) bytes.now).text out.new result.text }
     ensures room { (result.lines ≤ 10752) × (result.text ≤ 65536) }

@@ -148,6 +148,7 @@ fn first_anchor() -> AnchorRef {
 }
 
 // How many places an edit recuts does not turn on where the anchors are: here they are all in one point.
+// Kept: three functions, since each call writes to others of the five lists, and a closure over them would be as long.
 fn recuts_of_move(rt: &impl Print, label: &[u8], word: u32) -> io::Result<()> {
     let shapes = [word];
     let mut anchors = [0.0f64; 60];

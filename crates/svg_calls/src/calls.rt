@@ -25,6 +25,7 @@ pub fn to_svg_d(shapes: &[u32], anchors: &[f64], out: &mut [u8]) -> Result<usize
 // The text of a path of n anchors: refused where the list is too short, else written. An anchor takes at most 73 bytes, and a subpath 27
 // beside, so that a list with that room is written at once. Else the text is first put to a list of one byte, past whose end it is counted
 // and not stored.
+// Kept: n beside the lists, since the opening counted it, and the anchors are lent longer than what they hold.
 fn hand_text(shapes: &[u32], anchors: &[f64], n: usize, out: &mut [u8]) -> Result<usize, Refusal>
     requires by_index { (j : ℕ) → j < total shapes.now → Placed anchors.now j }
     requires shapes_len_bound { (length shapes.now ≤ 32) × (total shapes.now ≤ 1024) × (n ≡ total shapes.now) }

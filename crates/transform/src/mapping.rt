@@ -24,10 +24,12 @@ fn mapped(m: [f64; 6], a: Anchor) -> Anchor
 }
 
 // The first n anchors of a list, mapped, to the front of another.
+// Kept: n beside the lists, which are lent longer than what they hold.
 pub fn map_anchors(m: [f64; 6], anchors: &[f64], n: usize, made: &mut [f64])
     requires { (n ≤ 512) × (n * 6 ≤ length anchors.now) × (n * 6 ≤ length made.old) }
     ensures { made.new ≡ overwrite (n * 6) (anchor_numbers (mapped_at m anchors.now)) made.old }
 {
+    // Kept: by index, since a proof learns only the length of what chunks_exact_mut leaves.
     for k in 0..n {
         path::put_anchor(made, k, mapped(m, path::anchor_at(anchors, k)));
     }

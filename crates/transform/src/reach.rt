@@ -29,6 +29,7 @@ fn keeps(a: f64, c: f64, e: f64, reach: f64) -> bool
 }
 
 // Whether the first n anchors of a list are found to be in limit, and to stay there under the map.
+// Kept: n beside the list, since what is said of it is said of n whole anchors.
 fn stays_in_limit(m: [f64; 6], anchors: &[f64], n: usize) -> bool
     requires { (n ≤ 512) × (n * 6 ≤ length anchors.now) }
     ensures { T result → (all (λ i. in_limit (entry anchors.now i)) (n * 6) ≡ true) × (all (λ i. in_limit (anchor_numbers (mapped_at m anchors.now) i)) (n * 6) ≡ true) }

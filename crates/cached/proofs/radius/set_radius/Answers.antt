@@ -36,7 +36,7 @@ write_places-requires c =
     let a = c.args in
     let w = c.in_ok-plan.ensures in
     let e = c.sub_at-sub.ensures in
-    let r = c.reach_of.ensures in
+    let r = c.reach.ensures in
     let h = inside_of (lent a.shapes.now a.anchors.now a.radii.now a.numbers.now a.flags.now) a.at.subpath w.stands c.sub_at-sub.result e in
     let p = h.path in
     record {
@@ -52,7 +52,7 @@ returns c =
     let l = lent a.shapes.now a.anchors.now a.radii.now a.numbers.now a.flags.now in
     let w = c.in_ok-plan.ensures in
     let e = c.sub_at-sub.ensures in
-    let r = c.reach_of.ensures in
+    let r = c.reach.ensures in
     let g = c.write_places.ensures in
     let v = view_in (edit_of (drawn l a.kind) (set_radius a.at.subpath a.at.anchor a.radius)).made a.at.subpath in
     radius_done l a.kind a.at.subpath a.at.anchor a.radius c.in_ok-plan.plan w _ _ _ (rw e)

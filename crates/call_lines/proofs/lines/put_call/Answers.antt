@@ -10,13 +10,12 @@ use Rattle.call_lines.proofs.lines.put_call.Goals as goal
 use Rattle.call_lines.proofs.lines.put_call.Goals.{then-refused, else-refused}
 
 pub put_recut-requires : goal.put_recut-requires
-unfolding sub_from
 put_recut-requires c =
     let a = c.args in
-    (rw (c.count_of.ensures, c.closed_of.ensures, c.window_of.ensures) (c.requires c.if-refused.false), rw c.window_of.ensures (window-reach a.which a.index))
+    (rw (c.sub_from.ensures, c.window_of.ensures) (c.requires c.if-refused.false), rw c.window_of.ensures (window-reach a.which a.index))
 
 pub returns : goal.returns
-unfolding sub_from call_line call_text
+unfolding call_line call_text
 returns c =
     let a = c.args in
     let h : length a.text.now.out.now < 2 ^ 64 = search rules in
@@ -30,7 +29,7 @@ returns c =
       | else-refused w ↦
           let s = c.requires w.if-refused.false in
           let p : Adds a.text.now (recut_text (recut_places (sub_from a.first a.word) (window_of a.which a.index))) w.put_recut.new.text =
-          rw (w.count_of.ensures, w.closed_of.ensures, w.window_of.ensures) at w.put_recut.ensures in
+          rw (w.sub_from.ensures, w.window_of.ensures) at w.put_recut.ensures in
           let n = recut-room (sub_from a.first a.word) (window_of a.which a.index) s (window-reach a.which a.index) in
           record {
             text = rw (eq-eqb a.number 0 w.if-refused.false) (then h p (rw w.text-is at c.put.ensures));

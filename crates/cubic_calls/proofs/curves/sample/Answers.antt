@@ -5,12 +5,16 @@ use mathlib.Core.Bool.{◌&&◌}
 use native.Mathlib.Omega.{arith}
 use lib.Dec.{leb}
 use lib.Ieee.{nan}
+use Rattle.std.proofs.lemmas.List.{length-take-le}
 use Rattle.cubic.specs.Limits.{curve_in}
 use Rattle.cubic_calls.specs.Calls.{sample_verdict, sample_answer, sample_left}
 use Rattle.cubic_calls.proofs.Outcomes.{room, no_room, made_fails, room_fails, all_hold, kept, written}
 use Rattle.cubic_calls.proofs.Sampled.{few_points, front_tested, front_copied}
 use Rattle.cubic_calls.proofs.curves.sample.Goals as goal
 use Rattle.refusal.proofs.Verdicts.{answers_ok, answers_err}
+
+pub slice_bounds-numbers_in_limit-end : goal.slice_bounds-numbers_in_limit-end
+slice_bounds-numbers_in_limit-end c = sym (length-take-le _ c.sample-count.new.out (omega (arith, few_points c.args.c c.args.n (omega arith), c.sample-count.ensures.count)))
 
 pub returns-then-not-numbers_in_limit : goal.returns-then-not-numbers_in_limit
 unfolding sample_answer sample_left sample_verdict

@@ -17,12 +17,12 @@ loop-k-preserved c =
     let l = c.loop-k in
     let a = c.args in
     let e = c.put_anchor.ensures in
-    (ap length e ∙ length-put l.to (a.from + l.k) _ ∙ l.invariant.0, put_table a.to.now l.to _ a.from l.k (λ i. target_at a.target.now a.n a.at_start (i + 1)) _ l.invariant.1 c.target_at.ensures e)
+    (ap length e ∙ length-put l.to (a.from + l.k) _ ∙ l.invariant.0, put_table a.to.now l.to _ a.from l.k (λ i. target_at a.target.anchors.now a.target.n a.target.at_start (i + 1)) _ l.invariant.1 c.anchor.ensures e)
 
 pub returns : goal.returns
 unfolding target_rest
 returns c =
     let l = c.loop-k in
     let a = c.args in
-    let e : l.k ≡ a.n - 1 = omega arith in
-    l.invariant.1 ∙ ap (λ i. put_all a.to.now a.from (tabulate i (λ j. target_at a.target.now a.n a.at_start (j + 1)))) e
+    let e : l.k ≡ a.target.n - 1 = omega arith in
+    l.invariant.1 ∙ ap (λ i. put_all a.to.now a.from (tabulate i (λ j. target_at a.target.anchors.now a.target.n a.target.at_start (j + 1)))) e

@@ -7,4 +7,4 @@ use Rattle.joining.proofs.anchors.put_rest.Given as goal
 
 abbrev pub invariant-loop-k : goal.invariant-loop-k
 invariant-loop-k l =
-    (length l.to ≡ length l.initial.to) × (l.to ≡ put_all l.initial.to l.from (tabulate l.k (λ i. target_at l.target l.n l.at_start (i + 1))))
+    (length l.to ≡ length l.initial.to) × (l.to ≡ put_all l.initial.to l.from (tabulate l.k (λ i. target_at l.target.anchors.now l.target.n l.target.at_start (i + 1))))

@@ -36,7 +36,7 @@ returns-then-not-in_limit c =
     let q = c.requires in
     let n = c.count_of-n.ensures in
     let d = c.saturating_sub-before.ensures in
-    let j = c.joint_of-joint.ensures ∙ ap (joint_of a.drawn.now a.count) (c.target_at.ensures ∙ ap (λ (m : ℕ). target_at a.target.now m a.at_start 0) n) in
+    let j = c.joint_of-joint.ensures ∙ ap (joint_of a.drawn.now a.count) (c.anchor.ensures ∙ ap (λ (m : ℕ). target_at a.target.now m a.at_start 0) n) in
     let out = ap anchor_good (sym j) ∙ sym c.in_limit.ensures ∙ c.if-not-in_limit.true in
     let v = joint_refused _ _ _ a.word _ _ _ q.0 q.1 q.2 q.3 q.4 (omega (arith, n, c.if-n-eq0.false)) (omega (arith, n, d, c.if-before-n-gt512.false)) out ∙ ap (λ (k : ℕ). refused (refusal_at Made k)) (sym d) in
     let h = join-refused a.drawn.now a.count a.target.now a.word a.at_start a.to_shapes.now a.to.now _ v in
@@ -48,7 +48,7 @@ returns-then-is_empty c =
     let q = c.requires in
     let n = c.count_of-n.ensures in
     let d = c.saturating_sub-before.ensures in
-    let j = c.joint_of-joint.ensures ∙ ap (joint_of a.drawn.now a.count) (c.target_at.ensures ∙ ap (λ (m : ℕ). target_at a.target.now m a.at_start 0) n) in
+    let j = c.joint_of-joint.ensures ∙ ap (joint_of a.drawn.now a.count) (c.anchor.ensures ∙ ap (λ (m : ℕ). target_at a.target.now m a.at_start 0) n) in
     let inside = ap anchor_good (sym j) ∙ sym c.in_limit.ensures ∙ c.if-not-in_limit.false in
     let v : join_verdict a.drawn.now a.count a.target.now a.word a.at_start a.to_shapes.now a.to.now ≡ refused (refusal_at Output 0) =
     elim c.then-is_empty.branch [
@@ -64,7 +64,7 @@ returns c =
     let q = c.requires in
     let n = c.count_of-n.ensures in
     let d = c.saturating_sub-before.ensures in
-    let j = c.joint_of-joint.ensures ∙ ap (joint_of a.drawn.now a.count) (c.target_at.ensures ∙ ap (λ (m : ℕ). target_at a.target.now m a.at_start 0) n) in
+    let j = c.joint_of-joint.ensures ∙ ap (joint_of a.drawn.now a.count) (c.anchor.ensures ∙ ap (λ (m : ℕ). target_at a.target.now m a.at_start 0) n) in
     let inside = ap anchor_good (sym j) ∙ sym c.in_limit.ensures ∙ c.if-not-in_limit.false in
     let h =
     join_accepted a.drawn.now a.count a.target.now a.word a.at_start a.to_shapes.now a.to.now q.0 q.1 q.2 q.3 q.4 (omega (arith, n, c.if-n-eq0.false)) (omega (arith, n, d, c.if-before-n-gt512.false))

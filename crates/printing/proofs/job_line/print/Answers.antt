@@ -6,7 +6,7 @@ use Rattle.printing.proofs.Jobs.{read-refused, read-given, given-text, given-dra
 use Rattle.printing.proofs.job_line.print.Goals as goal
 
 pub returns-then-bytes-gt32768 : goal.returns-then-bytes-gt32768
-returns-then-bytes-gt32768 c = rw (← long_text c.args.bytes.now c.if-bytes-gt32768.true) c.put_refused.ensures
+returns-then-bytes-gt32768 c = rw (← long_text c.args.bytes.now c.if-bytes-gt32768.true) (rw c.at.ensures at c.put_refusal.ensures)
 
 pub slice_bounds-shapes-end : goal.slice_bounds-shapes-end
 slice_bounds-shapes-end c = omega (arith, (read-given _ _ _ _ refl refl refl (omega arith) _ (sym c.in-Ok.ensures.answer)).few_words)
@@ -41,10 +41,10 @@ pub put_drawing-requires : goal.put_drawing-requires
 put_drawing-requires c =
     let e = c.in-Ok.ensures in
     let g = read-given _ _ _ _ refl refl refl (omega arith) _ (sym e.answer) in
-    (rw (e.shapes, e.anchors, e.radii) (given-drawn _ _ _ _ refl refl refl (omega arith) _ g), search rules)
+    rw (e.shapes, e.anchors, e.radii) (given-drawn _ _ _ _ refl refl refl (omega arith) _ g)
 
 pub returns-in-Err : goal.returns-in-Err
-returns-in-Err c = rw (← read-refused _ _ _ _ refl refl refl (omega arith) _ (sym c.in-Err.ensures.answer)) c.put_refusal.ensures
+returns-in-Err c = rw (← read-refused _ _ _ _ refl refl refl (omega arith) _ (sym c.in-Err.ensures.answer)) c.put_refusal-in-Err.ensures
 
 pub returns-in-Ok : goal.returns-in-Ok
 returns-in-Ok c =

@@ -1,69 +1,58 @@
--- `recutting::plans::first_bad`: the places passed are good, and the one it stops at is not.
-use Rattle.std.proofs.Common.{◌≡◌, ◌+◌, ◌-◌, ◌<◌, sym, ap, ◌∙◌}
+-- `recutting::plans::first_bad`: the places passed are good, and the one it finds is not.
+use Rattle.std.proofs.Common.{◌≡◌, ℕ, ◌<◌, true, false, rules, tests, ap, ◌∙◌}
 use native.Mathlib.Omega.{arith}
-use Rattle.path.proofs.Limits.{first_is, none_is}
-use Rattle.cut.specs.Near.{span_of}
+use Rattle.std.proofs.lemmas.Iterator.{first_from_Range, serves_from_Range}
+use Rattle.cut.specs.Near.{near}
 use Rattle.cut.specs.Unrolled.{rolled}
 use Rattle.cut.proofs.Unrolled.{index_back}
 use Rattle.cache.specs.Tests.{twelve_in}
-use Rattle.recutting.proofs.Passing.{span-order, pass_none, pass_skip, pass_more, pass_bad, pass_end}
+use Rattle.recutting.proofs.Passing.{span-order, bad_found}
 use Rattle.recutting.proofs.plans.first_bad.Goals as goal
 
-pub loop-i-init : goal.loop-i-init
-loop-i-init c =
-    let a = c.args in
-    let p = c.requires.n_bound.2 in
-    let e = c.span-there.ensures in
-    let o = span-order a.sub a.w p in
-    let g = pass_none a.sub a.w (λ k. twelve_in a.numbers.now (rolled a.sub.n a.from (k - a.sub.first))) p in
-    record { under = rw e o.0; inside = rw e o.1; to = ap (λ z. z.to) e; good = rw e g }
-
-pub loop-i-preserved-then-not-near : goal.loop-i-preserved-then-not-near
-loop-i-preserved-then-not-near c =
-    let l = c.loop-i in
-    let i = l.invariant in
-    let a = c.args in
-    record { under = omega arith; inside = i.inside; to = i.to; good = pass_skip a.sub a.w _ l.i (omega (arith, i.inside)) (sym c.near.ensures ∙ c.if-not-near.true) i.good }
-
-pub place_in-requires : goal.place_in-requires
-place_in-requires c =
+pub find-requires-clause-callable : goal.find-requires-clause-callable
+find-requires-clause-callable c =
     let a = c.args in
     let n = c.requires.n_bound in
-    let i = c.loop-i.invariant in
-    let b : c.loop-i.i < a.sub.n = omega (arith, i.inside) in
-    let x = c.requires.by_index c.loop-i.i b (sym c.near.ensures ∙ c.if-not-near.false) in
-    let e = c.rolled.ensures in
-    let z = (index_back _ _ _ n.1 b).1 in
-    (omega arith, omega arith)
+    serves_from_Range
+    (λ x q k. search (rules, tests))
+    (λ x low high.
+    let o = span-order a.sub a.w n.2 in
+    let end = ap (λ z. z.to) c.span-there.ensures in
+    let b : x < a.sub.n = omega (arith, o.1) in
+    let i = index_back a.sub.n a.from x n.1 b in
+    let f = c.requires.by_index x b in
+    search rules)
 
-pub returns-then-not-place_in : goal.returns-then-not-place_in
-returns-then-not-place_in c =
-    let l = c.loop-i in
-    let i = l.invariant in
+pub returns-in_err-i : goal.returns-in_err-i
+returns-in_err-i c =
     let a = c.args in
-    let f = a.sub.first in
-    let b : l.i < a.sub.n = omega (arith, i.inside) in
-    let e : f + l.i - f ≡ l.i = omega arith in
-    let tested : twelve_in a.numbers.now (rolled a.sub.n a.from (f + l.i - f)) ≡ c.place_in.result = rw e (ap (twelve_in a.numbers.now) (sym c.rolled.ensures) ∙ sym c.place_in.ensures) in
-    let bad = pass_bad a.sub a.w (λ k. twelve_in a.numbers.now (rolled a.sub.n a.from (k - a.sub.first))) l.i b (sym c.near.ensures ∙ c.if-not-near.false) (tested ∙ c.if-not-place_in.true) in
-    sym ((first_is _ _ _).1 (record { place = omega arith; bad = bad; below = i.good }))
+    let t = λ (i : ℕ). twelve_in a.numbers.now (rolled a.sub.n a.from i) in
+    let close = near a.w.reach a.sub.n a.sub.closed a.w.at in
+    let f = bad_found a.sub a.w t _ c.span-there.ensures c.requires.n_bound.2 c.find.result
+    (first_from_Range _ _ _ _ (λ i. (close i ≡ true) × (t i ≡ false)) (λ i. close i ≡ true → t i ≡ true) c.find.ensures.ran
+    (λ x q k. search (rules, tests))
+    (λ x q k. (search rules, search (rules, tests)))) in
+    c.from_residual.ensures ∙ rw c.in_err-i.was at f
 
-pub loop-i-preserved : goal.loop-i-preserved
-loop-i-preserved c =
-    let l = c.loop-i in
-    let i = l.invariant in
+pub overflow_add-result : goal.overflow_add-result
+overflow_add-result c =
     let a = c.args in
-    let f = a.sub.first in
-    let b : l.i < a.sub.n = omega (arith, i.inside) in
-    let e : f + l.i - f ≡ l.i = omega arith in
-    let tested : twelve_in a.numbers.now (rolled a.sub.n a.from (f + l.i - f)) ≡ c.place_in.result = rw e (ap (twelve_in a.numbers.now) (sym c.rolled.ensures) ∙ sym c.place_in.ensures) in
-    let more = pass_more a.sub a.w (λ k. twelve_in a.numbers.now (rolled a.sub.n a.from (k - a.sub.first))) l.i b (tested ∙ c.if-not-place_in.false) i.good in
-    record { under = omega arith; inside = i.inside; to = i.to; good = more }
+    let t = λ (i : ℕ). twelve_in a.numbers.now (rolled a.sub.n a.from i) in
+    let close = near a.w.reach a.sub.n a.sub.closed a.w.at in
+    let f = bad_found a.sub a.w t _ c.span-there.ensures c.requires.n_bound.2 c.find.result
+    (first_from_Range _ _ _ _ (λ i. (close i ≡ true) × (t i ≡ false)) (λ i. close i ≡ true → t i ≡ true) c.find.ensures.ran
+    (λ x q k. search (rules, tests))
+    (λ x q k. (search rules, search (rules, tests)))) in
+    let b = (rw c.in_ok-i.was at f).0 in
+    record { fits = omega (arith, b) }
 
 pub returns : goal.returns
 returns c =
-    let l = c.loop-i in
-    let i = l.invariant in
     let a = c.args in
-    let e : l.i ≡ (span_of a.w.reach a.sub.n a.sub.closed a.w.at).to = omega (arith, i.to) in
-    sym ((none_is _ _).1 (pass_end a.sub a.w (λ k. twelve_in a.numbers.now (rolled a.sub.n a.from (k - a.sub.first))) c.requires.n_bound.2 (rw e at i.good)))
+    let t = λ (i : ℕ). twelve_in a.numbers.now (rolled a.sub.n a.from i) in
+    let close = near a.w.reach a.sub.n a.sub.closed a.w.at in
+    let f = bad_found a.sub a.w t _ c.span-there.ensures c.requires.n_bound.2 c.find.result
+    (first_from_Range _ _ _ _ (λ i. (close i ≡ true) × (t i ≡ false)) (λ i. close i ≡ true → t i ≡ true) c.find.ensures.ran
+    (λ x q k. search (rules, tests))
+    (λ x q k. (search rules, search (rules, tests)))) in
+    (rw c.in_ok-i.was at f).1

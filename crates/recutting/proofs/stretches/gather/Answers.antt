@@ -26,39 +26,32 @@ stands anchors radii first n from gap j u i p h l e d =
     let q = p (unrolled n from j) (index-of n from j h l).below in
     rw (d, e) (record { long = q.0; round = q.1; small = q.2 })
 
-pub overflow_add-first : goal.overflow_add-first
-overflow_add-first c =
+pub overflow_add-i : goal.overflow_add-i
+overflow_add-i c =
     let a = c.args in
     let b = c.requires.n_bound in
-    let s = stands a.anchors.now a.radii.now a.sub.first a.sub.n a.s.from a.gap c.loop-j.j _ _ c.requires.by_index b.1 (omega arith) c.unrolled.ensures c.stood-i.ensures in
+    let s = stands a.anchors.now a.radii.now a.sub.first a.sub.n a.s.from a.gap c.loop-j.j _ _ c.requires.by_index b.1 (omega arith) c.unrolled.ensures c.stood.ensures in
     record { fits = omega (arith, s.small) }
 
 pub anchor_at-requires : goal.anchor_at-requires
 anchor_at-requires c =
     let a = c.args in
     let b = c.requires.n_bound in
-    let s = stands a.anchors.now a.radii.now a.sub.first a.sub.n a.s.from a.gap c.loop-j.j _ _ c.requires.by_index b.1 (omega arith) c.unrolled.ensures c.stood-i.ensures in
+    let s = stands a.anchors.now a.radii.now a.sub.first a.sub.n a.s.from a.gap c.loop-j.j _ _ c.requires.by_index b.1 (omega arith) c.unrolled.ensures c.stood.ensures in
     omega (arith, s.long)
 
-pub overflow_add-r : goal.overflow_add-r
-overflow_add-r c =
+pub offset_bounds-radii-i : goal.offset_bounds-radii-i
+offset_bounds-radii-i c =
     let a = c.args in
     let b = c.requires.n_bound in
-    let s = stands a.anchors.now a.radii.now a.sub.first a.sub.n a.s.from a.gap c.loop-j.j _ _ c.requires.by_index b.1 (omega arith) c.unrolled.ensures c.stood-i.ensures in
+    let s = stands a.anchors.now a.radii.now a.sub.first a.sub.n a.s.from a.gap c.loop-j.j _ _ c.requires.by_index b.1 (omega arith) c.unrolled.ensures c.stood.ensures in
     record { fits = omega (arith, s.small) }
 
-pub offset_bounds-radii-first : goal.offset_bounds-radii-first
-offset_bounds-radii-first c =
+pub bounds-radii-i : goal.bounds-radii-i
+bounds-radii-i c =
     let a = c.args in
     let b = c.requires.n_bound in
-    let s = stands a.anchors.now a.radii.now a.sub.first a.sub.n a.s.from a.gap c.loop-j.j _ _ c.requires.by_index b.1 (omega arith) c.unrolled.ensures c.stood-i.ensures in
-    record { fits = omega (arith, s.small) }
-
-pub bounds-radii-first : goal.bounds-radii-first
-bounds-radii-first c =
-    let a = c.args in
-    let b = c.requires.n_bound in
-    (stands a.anchors.now a.radii.now a.sub.first a.sub.n a.s.from a.gap c.loop-j.j _ _ c.requires.by_index b.1 (omega arith) c.unrolled.ensures c.stood-i.ensures).round
+    (stands a.anchors.now a.radii.now a.sub.first a.sub.n a.s.from a.gap c.loop-j.j _ _ c.requires.by_index b.1 (omega arith) c.unrolled.ensures c.stood.ensures).round
 
 pub loop-j-preserved : goal.loop-j-preserved
 loop-j-preserved c =
@@ -66,15 +59,15 @@ loop-j-preserved c =
     let l = c.loop-j in
     let i = l.invariant in
     let g = c.put_anchor.ensures in
-    let e : c.stood-i.result ≡ old a.gap (unrolled a.sub.n a.s.from l.j) = c.stood-i.ensures ∙ ap (old a.gap) c.unrolled.ensures in
+    let e : c.stood.result ≡ old a.gap (unrolled a.sub.n a.s.from l.j) = c.stood.ensures ∙ ap (old a.gap) c.unrolled.ensures in
     record {
-      anchors_long = ap length g ∙ length-put l.a l.j c.anchor_at.result ∙ i.anchors_long;
+      anchors_long = ap length g ∙ length-put l.g.anchors l.j c.anchor_at.result ∙ i.anchors_long;
       radii_long = simp length-set i.radii_long;
       anchor = λ q h.
           ap (λ z. anchor_at z q) g
-          ∙ put_more (λ q. anchor_at a.anchors.now (a.sub.first + old a.gap (unrolled a.sub.n a.s.from q))) l.a l.j c.anchor_at.result (omega (arith, i.anchors_long)) i.anchor
+          ∙ put_more (λ q. anchor_at a.anchors.now (a.sub.first + old a.gap (unrolled a.sub.n a.s.from q))) l.g.anchors l.j c.anchor_at.result (omega (arith, i.anchors_long)) i.anchor
           (c.anchor_at.ensures ∙ ap (λ z. anchor_at a.anchors.now (a.sub.first + z)) e) q h;
-      radius = fill_more nan l.r l.j _ (λ q. entry a.radii.now (a.sub.first + old a.gap (unrolled a.sub.n a.s.from q))) (omega (arith, i.radii_long)) i.radius (ap (λ z. entry a.radii.now (a.sub.first + z)) e);
+      radius = fill_more nan l.g.radii l.j _ (λ q. entry a.radii.now (a.sub.first + old a.gap (unrolled a.sub.n a.s.from q))) (omega (arith, i.radii_long)) i.radius (ap (λ z. entry a.radii.now (a.sub.first + z)) e);
     }
 
 pub returns : goal.returns

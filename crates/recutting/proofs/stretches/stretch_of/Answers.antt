@@ -18,8 +18,8 @@ back-round n k i r e l h =
     let y = x.1 in
     (omega arith, ⊎_elim (λ (q : k + rolled n k i ≡ i). inl (omega arith)) (λ (q : k + rolled n k i ≡ i + n). inr (omega arith)) x.0.is)
 
-pub returns-then-closed : goal.returns-then-closed
-returns-then-closed c =
+pub returns-then-sub : goal.returns-then-sub
+returns-then-sub c =
     let a = c.args in
     let x = back-round _ _ _ _ c.rolled.ensures (omega arith) (omega arith) in
     record {
@@ -29,7 +29,7 @@ returns-then-closed c =
       middle = omega arith;
       is = inr (record {
         straight = refl;
-        within = λ o. absurd (not_both a.sub.closed o c.if-closed.true);
+        within = λ o. absurd (not_both a.sub.closed o c.if-sub.true);
         middle = x.1;
         mid_in = omega arith;
         low = inl (omega arith);
@@ -56,24 +56,24 @@ row k n i l there e =
 pub overflow_sub-result : goal.overflow_sub-result
 overflow_sub-result c =
     let a = c.args in
-    let r = row (a.w.reach + 3) a.sub.n a.w.at c.requires.0 c.span-there.result c.span-there.ensures in
+    let r = row (a.w.reach + 3) a.sub.n a.w.at c.requires.0 c.span-from.result c.span-from.ensures in
     omega (arith, r.from, r.past)
 
 pub overflow_sub-result-2 : goal.overflow_sub-result-2
 overflow_sub-result-2 c =
     let a = c.args in
-    let r = row (a.w.reach + 3) a.sub.n a.w.at c.requires.0 c.span-there.result c.span-there.ensures in
+    let r = row (a.w.reach + 3) a.sub.n a.w.at c.requires.0 c.span-from.result c.span-from.ensures in
     omega (arith, r.from)
 
 pub returns : goal.returns
 returns c =
     let a = c.args in
-    let o : a.sub.closed ≡ false = c.if-closed.false in
-    let r = row (a.w.reach + 3) a.sub.n a.w.at c.requires.0 c.span-there.result c.span-there.ensures in
+    let o : a.sub.closed ≡ false = c.if-sub.false in
+    let r = row (a.w.reach + 3) a.sub.n a.w.at c.requires.0 c.span-from.result c.span-from.ensures in
     let f = r.from in
     let p = r.past in
     let n = r.inside in
-    let short : c.span-there.result.to ≤ a.w.at + (a.w.reach + 3) + 1 = ⊎_elim (λ h. omega arith) (λ h. let z = h.1 in omega arith) r.to in
+    let short : c.span-from.result.to ≤ a.w.at + (a.w.reach + 3) + 1 = ⊎_elim (λ h. omega arith) (λ h. let z = h.1 in omega arith) r.to in
     record {
       inside = omega arith;
       few = omega arith;

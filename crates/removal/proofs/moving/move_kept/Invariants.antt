@@ -1,7 +1,6 @@
 -- Those before k that are kept stand from `at` on.
-use Rattle.std.proofs.Common.{◌-◌}
 use Rattle.removal.proofs.Moved.{MovedTo}
 use Rattle.removal.proofs.moving.move_kept.Given as goal
 
 abbrev pub invariant-loop-k : goal.invariant-loop-k
-invariant-loop-k l = MovedTo l.gone l.initial.anchors l.first l.at l.anchors l.next (l.k - l.first)
+invariant-loop-k l = MovedTo l.gone l.initial.anchors l.first l.at l.anchors l.next l.k

@@ -26,7 +26,7 @@ put_outline-requires c =
     let q = c.requires in
     let e = c.in-Ok.ensures in
     let t = told_drawing _ _ _ _ _ _ q.drawing.0 q.drawing.1 q.drawing.2 q.calls.0 q.calls.1 q.calls.2 _ _ _ refl refl refl _ _ _ (sym e.answer) e.lists e.answers in
-    (t.gathers, q.room)
+    t.gathers
 
 pub returns-in-Ok : goal.returns-in-Ok
 returns-in-Ok c =

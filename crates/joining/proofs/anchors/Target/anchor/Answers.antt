@@ -5,10 +5,10 @@ use Rattle.path.specs.Flat.{anchor_at}
 use Rattle.edit.specs.Reversed.{turned}
 use Rattle.joining.specs.Joined.{target_at}
 use Rattle.joining.proofs.Within.{reversed_at}
-use Rattle.joining.proofs.anchors.target_at.Goals as goal
+use Rattle.joining.proofs.anchors.Target.anchor.Goals as goal
 
-pub returns-else-at_start : goal.returns-else-at_start
+pub returns-else-self : goal.returns-else-self
 unfolding target_at
-returns-else-at_start c =
+returns-else-self c =
     let a = c.args in
-    rw c.if-at_start.false (c.turned.ensures ∙ ap turned c.anchor_at-else-at_start.ensures ∙ sym (reversed_at (anchor_at a.target.now) a.n a.k (omega arith)))
+    rw c.if-self.false (c.turned.ensures ∙ ap turned c.anchor_at-else-self.ensures ∙ sym (reversed_at (anchor_at a.self.anchors.now) a.self.n a.k (omega arith)))

@@ -1,0 +1,19 @@
+-- The calls of a list by the number of their kind. Assumes nothing.
+use Rattle.std.specs.Prelude.{ℕ, zero, suc, Option, Some, None}
+use Rattle.path.specs.declared.anchor.Anchor.{Anchor}
+use Rattle.session.specs.Edits.{Call, move, set_radius, split}
+use Rattle.replay.specs.declared.kind.CallKind.{CallKind}
+use Rattle.replay.specs.declared.kind.CallKind.TheVariants.{Move, Radius, Split}
+
+-- a call's first word
+unfoldable pub kind_of : ℕ → Option CallKind
+kind_of zero = Some Move
+kind_of (suc zero) = Some Radius
+kind_of (suc (suc zero)) = Some Split
+kind_of (suc (suc (suc n))) = None
+
+-- the call of a kind: an anchor is moved to the six numbers, its radius set to the first of them, a segment split at the first
+unfoldable pub call_as : CallKind → ℕ → ℕ → Anchor → Call
+call_as Move s i given = move s i given
+call_as Radius s i given = set_radius s i given.p.x
+call_as Split s i given = split s i given.p.x
