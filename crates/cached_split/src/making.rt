@@ -5,7 +5,7 @@ ghost use Rattle.views.specs.View.{entry, overwrite};
 ghost use Rattle.path.specs.Flat.{anchor_at, anchor_numbers};
 ghost use Rattle.path.specs.Limit.{first_bad};
 ghost use Rattle.cut.specs.Near.{shifted};
-ghost use Rattle.edit.specs.Split.{halves, puts_within, split_anchors};
+ghost use Rattle.edit.specs.Split.{halves, puts_within, split_anchors, Splittable};
 ghost use Rattle.session.specs.Edits.{split_radii};
 ghost use Rattle.cached_split.specs.Splitting.{grown};
 
@@ -30,7 +30,7 @@ pub fn first_put(h: Halved, a: usize, b: usize) -> Option<usize>
 
 // Splits the segment from place a to place b of n anchors.
 pub fn put_anchors(anchors: &mut [f64], n: usize, a: usize, b: usize, t: f64)
-    requires { (n < 512) × (a < n) × (b < n) × (a ≡ b → ⊥) × (n * 6 + 6 ≤ length anchors.old) }
+    requires { Splittable anchors.old n a b }
     ensures { anchors.new ≡ overwrite ((n + 1) * 6) (anchor_numbers (split_anchors (anchor_at anchors.old) a b t)) anchors.old }
 {
     let h = halved(anchors, a, b, t);

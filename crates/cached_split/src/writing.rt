@@ -4,9 +4,8 @@
 ghost use Rattle.std.specs.Prelude.{◌≡◌, ◌+◌, ◌*◌, ◌≤◌, ◌<◌, length};
 ghost use Rattle.views.specs.View.{entry, overwrite};
 ghost use Rattle.path.specs.Flat.{anchor_at, anchor_numbers};
-ghost use Rattle.path.specs.Shape.{count_of, word_at};
 ghost use Rattle.edit.specs.Gap.{gapped};
-ghost use Rattle.edit.specs.Split.{split_anchors, split_shapes};
+ghost use Rattle.edit.specs.Split.{split_anchors, split_shapes, Splittable, Growable};
 ghost use Rattle.session.specs.Edits.{split_radii};
 ghost use Rattle.session.specs.Model.{long_for};
 ghost use Rattle.cached_split.specs.Splitting.{shifted_flags};
@@ -40,8 +39,8 @@ pub fn write_drawing(
     n: usize,
     t: f64,
 )
-    requires n_bound { (n < 512) × (a < n) × (b < n) × (a ≡ b → ⊥) × (n * 6 + 6 ≤ length anchors.old) × (n + 1 ≤ length radii.old) }
-    requires s_in_bounds { (s < length shapes.old) × (count_of (word_at shapes.old s) < 512) }
+    requires n_bound { Splittable anchors.old n a b × (n + 1 ≤ length radii.old) }
+    requires s_in_bounds { Growable shapes.old s }
     ensures shapes { shapes.new ≡ split_shapes shapes.old s }
     ensures anchors { anchors.new ≡ overwrite ((n + 1) * 6) (anchor_numbers (split_anchors (anchor_at anchors.old) a b t)) anchors.old }
     ensures radii { radii.new ≡ overwrite (n + 1) (split_radii (entry radii.old) a) radii.old }

@@ -38,6 +38,7 @@ fn sub_from(first: u32, word: u32) -> Sub
 }
 
 // Puts "recut", and the places of a subpath that are within reach, each after a blank.
+// Kept: the reach beside Sound, since Around would say its other two facts again.
 fn put_recut(text: &mut Text<'_>, sub: Sub, w: Window)
     requires { Sound sub w × (w.reach ≤ 4) }
     ensures { Adds text.old (recut_text (recut_places sub w)) text.new }

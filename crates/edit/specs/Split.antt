@@ -1,5 +1,5 @@
 -- `split`: a segment cut in two by de Casteljau's subdivision, the new anchor put at the index after the segment's start. Assumes nothing.
-use Rattle.std.specs.Prelude.{ℕ, ◌+◌, Bool, true, ◌&&◌, cond, List, ltb, eqb, length, set, Float, Result}
+use Rattle.std.specs.Prelude.{◌≡◌, ℕ, ◌+◌, ◌*◌, ◌≤◌, ◌<◌, Bool, true, ◌&&◌, cond, List, ltb, eqb, length, set, Float, Result}
 use Rattle.views.specs.View.{tabulate}
 use Rattle.real.specs.Limit.{in_limit}
 use Rattle.geom.specs.Flat.{pt}
@@ -51,6 +51,24 @@ split_path shapes anchors s a t =
 
 unfoldable pub split_shapes : List ℕ → ℕ → List ℕ
 split_shapes shapes s = set shapes s (word_at shapes s + 1)
+
+-- ---- what the steps rest on
+-- places a and b of a path of n anchors are the ends of a segment, and the path may have one anchor more
+pub record Ends (n a b : ℕ) : Type 0 where
+  pub from : a < n
+  pub to : b < n
+  pub apart : a ≡ b → ⊥
+  pub few : n < 512
+
+-- ... for which the list has room
+pub record Splittable (anchors : List Float) (n a b : ℕ) : Type 0 where
+  pub ends : Ends n a b
+  pub room : n * 6 + 6 ≤ length anchors
+
+-- subpath s is there, and may have one anchor more
+pub record Growable (shapes : List ℕ) (s : ℕ) : Type 0 where
+  pub there : s < length shapes
+  pub few : count_of (word_at shapes s) < 512
 
 -- ---- the call
 -- subpath s has a segment that starts at its anchor a

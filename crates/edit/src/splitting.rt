@@ -1,12 +1,12 @@
 // `split`: an anchor put into a segment, which keeps its course.
 ghost use Rattle.std.specs.Prelude.{◌≡◌, ℕ, ◌+◌, ◌*◌, ◌≤◌, ◌<◌, length};
 ghost use Rattle.path.specs.Flat.{put_anchor};
-ghost use Rattle.path.specs.Shape.{count_of, word_at, start};
+ghost use Rattle.path.specs.Shape.{word_at};
 ghost use Rattle.path.specs.Limit.{anchor_in, first_bad};
 ghost use Rattle.path.proofs.Limits.{GoodBelow};
 ghost use Rattle.call.specs.Answers.{outline_answer, list_left, anchors_left};
 ghost use Rattle.edit.specs.Gap.{gapped};
-ghost use Rattle.edit.specs.Split.{shifted, halves, puts_within, split_places, split_shapes, made_verdict, split_answer, split_shapes_left, split_anchors_left};
+ghost use Rattle.edit.specs.Split.{shifted, halves, puts_within, split_places, split_shapes, Ends, Splittable, Growable, made_verdict, split_answer, split_shapes_left, split_anchors_left};
 
 use crate::gap::shift_up;
 use call::Outline;
@@ -73,7 +73,7 @@ pub fn first_out(h: Halved, a: usize, b: usize) -> Option<usize>
 // Puts a new anchor into the segment between two places of a path of n anchors.
 // Kept: n beside the list, which is lent longer than what it holds, and here takes one anchor more.
 pub fn put_halves(anchors: &mut [f64], n: usize, a: usize, b: usize, h: Halved)
-    requires { (n < 512) × (n * 6 + 6 ≤ length anchors.old) × (a < n) × (b < n) × (a ≡ b → ⊥) }
+    requires { Splittable anchors.old n a b }
     ensures { anchors.new ≡ put_anchor (put_anchor (put_anchor (gapped anchors.old (a + 1) n 6) a h.left) (a + 1) h.middle) (shifted a b) h.right }
 {
     shift_up(anchors, a + 1, n, 6);
@@ -84,7 +84,7 @@ pub fn put_halves(anchors: &mut [f64], n: usize, a: usize, b: usize, h: Halved)
 
 // One anchor more in subpath s.
 pub fn count_up(shapes: &mut [u32], s: usize)
-    requires { (s < length shapes.old) × (count_of (word_at shapes.old s) < 512) }
+    requires { Growable shapes.old s }
     ensures { shapes.new ≡ split_shapes shapes.old s }
 {
     shapes[s] += 1;
@@ -101,7 +101,7 @@ fn split_between(
     b: usize,
     t: f64,
 ) -> Result<Outline, Refusal>
-    requires { (s < length shapes.old) × (count_of (word_at shapes.old s) < 512) × (n < 512) × (n * 6 ≤ length anchors.old) × (a < n) × (b < n) × (a ≡ b → ⊥) × GoodBelow (anchor_in anchors.old) n }
+    requires { Growable shapes.old s × Ends n a b × (n * 6 ≤ length anchors.old) × GoodBelow (anchor_in anchors.old) n }
     ensures answer { result ≡ outline_answer (made_verdict (split_places anchors.old n a b t) shapes.old anchors.old) (length shapes.old) (n + 1) }
     ensures shapes { shapes.new ≡ list_left (made_verdict (split_places anchors.old n a b t) shapes.old anchors.old) (length shapes.old) (word_at (split_shapes shapes.old s)) shapes.old }
     ensures anchors { anchors.new ≡ anchors_left (made_verdict (split_places anchors.old n a b t) shapes.old anchors.old) (split_places anchors.old n a b t) anchors.old }

@@ -12,6 +12,7 @@ pub struct Candidate {
     pub dist: f64,
 }
 
+// Kept: `Barred` in the clauses and not an invariant, since it speaks of `tol` too, which a `Best` does not hold.
 #[derive(Clone, Copy, Debug, PartialEq)]
 pub struct Best {
     pub nearest: Option<Candidate>,

@@ -13,20 +13,21 @@ use Rattle.views.proofs.Laws.{order}
 use Rattle.path.specs.Limit.{anchor_in, first_bad}
 use Rattle.std.proofs.Common.{Some, None}
 use Rattle.path.proofs.Limits.{GoodBelow, first_is, none_is}
+use Rattle.joining.specs.Joined.{HoldsAnchors}
 use Rattle.joining.specs.Call.{list_fits, either_in}
 
 -- ---- 7
 module _ (n : ℕ) (xs : List Float) where
-  pub fits : n ≤ 512 → n * 6 ≤ length xs → list_fits n xs ≡ true
+  pub fits : HoldsAnchors xs n → list_fits n xs ≡ true
   unfolding list_fits
-  fits h l = rw (le-leb n 512 h, le-leb (n * 6) (length xs) l)
+  fits h = rw (le-leb n 512 h.few, le-leb (n * 6) (length xs) h.long)
 
-  pub fits_says : list_fits n xs ≡ true → (n ≤ 512) × (n * 6 ≤ length xs)
+  pub fits_says : list_fits n xs ≡ true → HoldsAnchors xs n
   unfolding list_fits
   fits_says = go (leb n 512) (leb (n * 6) (length xs)) refl refl
     where
-      go : (p q : Bool) → leb n 512 ≡ p → leb (n * 6) (length xs) ≡ q → (p && q) ≡ true → (n ≤ 512) × (n * 6 ≤ length xs)
-      go true true e f h = (leb-true _ _ e, leb-true _ _ f)
+      go : (p q : Bool) → leb n 512 ≡ p → leb (n * 6) (length xs) ≡ q → (p && q) ≡ true → HoldsAnchors xs n
+      go true true e f h = record { few = leb-true _ _ e; long = leb-true _ _ f }
       go true false e f h = absurd (true≢false (sym h))
       go false q e f h = absurd (true≢false (sym h))
 

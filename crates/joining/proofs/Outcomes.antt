@@ -24,7 +24,7 @@ use Rattle.path.proofs.Limits.{GoodBelow, first_is}
 use Rattle.call.specs.Tests.{places, outline_limit, room_for}
 use Rattle.call.proofs.Openings.{places_fail, places_pass}
 use Rattle.call.proofs.Handings.{room, few_words, few_numbers, outline-refused, outline_accepted, list_kept, list_written, anchors_kept, anchors_written}
-use Rattle.joining.specs.Joined.{target_at, target_rest, joint_of, joined_anchors}
+use Rattle.joining.specs.Joined.{HoldsAnchors, target_at, target_rest, joint_of, joined_anchors}
 use Rattle.joining.specs.Call.{list_fits, either_in, joined_path, join_verdict, join_answer, join_shapes_left, join_anchors_left}
 use Rattle.joining.proofs.Eithers.{fits, drawn_good, target_good}
 use Rattle.joining.proofs.Within.{length-joined, joint_out, joint_in}
@@ -53,9 +53,9 @@ module _ (drawn : List Float) (count : ℕ) (target : List Float) (word : ℕ) (
   unfolding join_verdict
   no_target e = by_lists _ _ _ _ _ _ 0 (holds_false 0 (ap (λ b. list_fits count drawn && b) e ∙ and_false (list_fits count drawn)))
 
-  module _ (few : count ≤ 512) (long : count * 6 ≤ length drawn) (few-t : count_of word ≤ 512) (long-t : count_of word * 6 ≤ length target) where
+  module _ (held : HoldsAnchors drawn count) (held-t : HoldsAnchors target (count_of word)) where
     lists_pass : holds (list_fits count drawn && list_fits (count_of word) target) 0 ≡ passes
-    lists_pass = holds_true 0 (rw (fits count drawn few long, fits (count_of word) target few-t long-t))
+    lists_pass = holds_true 0 (rw (fits count drawn held, fits (count_of word) target held-t))
 
     -- ---- 5
     pub out_of_limit : (k : ℕ) → first_bad (either_in drawn count target) (count + count_of word) ≡ Some k → join_verdict drawn count target word at_start to_shapes to ≡ refused (refusal_at Arguments k)

@@ -1,10 +1,15 @@
 -- `join`, after 000: the anchors of a path being drawn run on into a subpath, the last of them landing on the target's end. Assumes nothing.
-use Rattle.std.specs.Prelude.{ℕ, zero, suc, ◌+◌, ◌-◌, Bool, true, false, List, ◌∷◌, ◌++◌, Float}
+use Rattle.std.specs.Prelude.{ℕ, zero, suc, ◌+◌, ◌-◌, ◌*◌, ◌≤◌, Bool, true, false, List, ◌∷◌, ◌++◌, length, Float}
 use Rattle.views.specs.View.{tabulate}
 use Rattle.geom.specs.Point.{plus, minus}
 use Rattle.path.specs.declared.anchor.Anchor.{Anchor}
 use Rattle.path.specs.Flat.{anchor_at}
 use Rattle.edit.specs.Reversed.{reversed_anchors}
+
+-- a list holds n anchors: no more than a path may have, six numbers for each
+pub record HoldsAnchors (xs : List Float) (n : ℕ) : Type 0 where
+  pub few : n ≤ 512
+  pub long : n * 6 ≤ length xs
 
 -- 000's `t`: anchor k of the target's n, as they are, or reversed
 unfoldable pub target_at : List Float → ℕ → Bool → ℕ → Anchor

@@ -3,7 +3,7 @@
 ghost use Rattle.std.specs.Prelude.{◌≡◌, ◌∷◌, ◌++◌, ◌+◌, ◌-◌, ◌*◌, ◌≤◌, ◌<◌, length};
 ghost use Rattle.views.specs.View.{tabulate};
 ghost use Rattle.path.specs.Flat.{anchor_at, put_all, listed};
-ghost use Rattle.joining.specs.Joined.{target_at, target_rest, landed, joint_of};
+ghost use Rattle.joining.specs.Joined.{HoldsAnchors, target_at, target_rest, landed, joint_of};
 
 use path::Anchor;
 
@@ -18,7 +18,8 @@ pub struct Target<'a> {
 impl<'a> Target<'a> {
     // Anchor k, from the end at which the target is joined.
     pub fn anchor(self, k: usize) -> Anchor
-        requires { (k < self.n) × (self.n ≤ 512) × (self.n * 6 ≤ length self.anchors.now) }
+        requires place { k < self.n }
+        requires anchors { HoldsAnchors self.anchors.now self.n }
         ensures { result ≡ target_at self.entry.anchors.now self.entry.n self.entry.at_start k }
     {
         if self.at_start {
@@ -41,7 +42,7 @@ fn landed(last: Anchor, a: Anchor) -> Anchor
 
 // The target's first anchor, once the last of `count` drawn ones has landed on it.
 pub fn joint_of(drawn: &[f64], count: usize, first: Anchor) -> Anchor
-    requires { (count ≤ 512) × (count * 6 ≤ length drawn.now) }
+    requires { HoldsAnchors drawn.now count }
     ensures { result ≡ joint_of drawn.now count first }
 {
     if count == 0 {
@@ -53,7 +54,8 @@ pub fn joint_of(drawn: &[f64], count: usize, first: Anchor) -> Anchor
 
 // Puts the anchors of the target after its first, from place `from` on.
 fn put_rest(target: Target, from: usize, to: &mut [f64])
-    requires { (0 < target.n) × (target.n ≤ 512) × (from ≤ 512) × (target.n * 6 ≤ length target.anchors.now) × ((from + (target.n - 1)) * 6 ≤ length to.old) }
+    requires target { (0 < target.n) × HoldsAnchors target.anchors.now target.n }
+    requires room { (from ≤ 512) × ((from + (target.n - 1)) * 6 ≤ length to.old) }
     ensures { to.new ≡ put_all to.old from (target_rest target.entry.anchors.now target.entry.n target.entry.at_start) }
 {
     // Kept: by index, since a proof learns only the length of what chunks_exact_mut leaves.
@@ -64,7 +66,9 @@ fn put_rest(target: Target, from: usize, to: &mut [f64])
 
 // Puts the drawn anchors before the joint, the joint, and the rest of the target.
 pub fn put_joined(drawn: &[f64], before: usize, joint: Anchor, target: Target, to: &mut [f64])
-    requires { (before ≤ 511) × (before * 6 ≤ length drawn.now) × (0 < target.n) × (target.n ≤ 512) × (target.n * 6 ≤ length target.anchors.now) × ((before + target.n) * 6 ≤ length to.old) }
+    requires drawn { (before ≤ 511) × (before * 6 ≤ length drawn.now) }
+    requires target { (0 < target.n) × HoldsAnchors target.anchors.now target.n }
+    requires room { (before + target.n) * 6 ≤ length to.old }
     ensures { to.new ≡ listed (tabulate before (anchor_at drawn.now) ++ (joint ∷ target_rest target.entry.anchors.now target.entry.n target.entry.at_start)) to.old }
 {
     views::copy(drawn, before * 6, to);

@@ -1,8 +1,9 @@
 // `join`, with its refusals: 7, 5 (the target's places after the drawn ones'), 6, 10, 9, 8.
 // Kept: lists and their counts by themselves, as the C interface lends them, longer than what they hold.
-ghost use Rattle.std.specs.Prelude.{◌≡◌, ◌+◌, ◌*◌, ◌≤◌, length};
+ghost use Rattle.std.specs.Prelude.{◌≡◌, ◌+◌};
 ghost use Rattle.path.specs.Shape.{count_of};
 ghost use Rattle.path.proofs.Limits.{GoodBelow};
+ghost use Rattle.joining.specs.Joined.{HoldsAnchors};
 ghost use Rattle.joining.specs.Call.{either_in, join_answer, join_shapes_left, join_anchors_left};
 
 use crate::anchors::{Target, joint_of, put_joined};
@@ -20,7 +21,9 @@ fn join_opened(
     to_shapes: &mut [u32],
     to: &mut [f64],
 ) -> Result<Outline, Refusal>
-    requires { (count ≤ 512) × (count * 6 ≤ length drawn.now) × (count_of word ≤ 512) × (count_of word * 6 ≤ length target.now) × GoodBelow (either_in drawn.now count target.now) (count + count_of word) }
+    requires drawn { HoldsAnchors drawn.now count }
+    requires target { HoldsAnchors target.now (count_of word) }
+    requires good { GoodBelow (either_in drawn.now count target.now) (count + count_of word) }
     ensures answer { result ≡ join_answer drawn.now count target.now word at_start to_shapes.old to.old }
     ensures shapes { to_shapes.new ≡ join_shapes_left drawn.now count target.now word at_start to_shapes.old to.old }
     ensures anchors { to.new ≡ join_anchors_left drawn.now count target.now word at_start to_shapes.old to.old }

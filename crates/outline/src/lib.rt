@@ -1,6 +1,7 @@
 // The C interface: one thin exported function for each call (include/outline.h says what a caller owes). Each returns the refusal's
 // number, 0 where the call is accepted, and writes place, count, subpaths and recut to `answer`; what is lent for a result is written
 // only where the call is accepted.
+// Kept: each list by itself, here and in every function that a call hands it to, since C lends it so.
 #![tactic(auto)]
 
 ghost use Rattle.std.specs.Prelude.{◌≡◌};

@@ -1,5 +1,5 @@
 -- The places of a subpath within reach of an index, and the limit on their numbers. Assumes nothing.
-use Rattle.std.specs.Prelude.{ℕ, ◌+◌, ◌-◌, Bool, not, ◌&&◌, ◌||◌, leb, ltb}
+use Rattle.std.specs.Prelude.{ℕ, ◌+◌, ◌-◌, ◌≤◌, ◌<◌, Bool, not, ◌&&◌, ◌||◌, leb, ltb}
 use Rattle.views.specs.View.{entry}
 use Rattle.views.specs.Search.{all}
 use Rattle.real.specs.Limit.{in_limit}
@@ -8,6 +8,12 @@ use Rattle.cut.specs.declared.subpath.Window.{Window}
 use Rattle.cut.specs.View.{View}
 use Rattle.cut.specs.Near.{near}
 use Rattle.cut.specs.Places.{place_at, place_numbers}
+
+-- the subpath is of a path that is not too large, and the window is about one of its indices, of four steps at most
+pub record Around (sub : Sub) (w : Window) : Type 0 where
+  pub few : sub.first + sub.n ≤ 1024
+  pub index : w.at < sub.n
+  pub reach : w.reach ≤ 4
 
 -- place k of the path is an index of the subpath within reach
 unfoldable pub reached_in : Sub → Window → ℕ → Bool

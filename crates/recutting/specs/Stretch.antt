@@ -22,6 +22,11 @@ use Rattle.recutting.specs.declared.plans.Plan.{Plan}
 use Rattle.recutting.specs.Near.{good_near}
 
 -- ---- which stretch
+-- where one starts: at an index of n anchors, which are not too many
+pub record Start (n from : ℕ) : Type 0 where
+  pub few : n ≤ 1024
+  pub inside : from < n
+
 -- the whole subpath
 pub record Whole (sub : Sub) (w : Window) (s : Stretch) : Type 0 where
   pub starts : s.from ≡ 0

@@ -8,7 +8,7 @@ ghost use Rattle.cut.specs.Recut.{put_place, recut_numbers, recut_flags};
 ghost use Rattle.path.specs.Flat.{anchor_at};
 ghost use Rattle.cut.specs.Near.{near};
 ghost use Rattle.cut.specs.Unrolled.{rolled};
-ghost use Rattle.recutting.specs.Near.{passes_near};
+ghost use Rattle.recutting.specs.Near.{Around, passes_near};
 ghost use Rattle.recutting.specs.Stretch.{About, Stretched, HoldsNumbers, HoldsFlags, Decides, Put};
 
 use crate::stretches::{Stretch, gather, rolled, stretch_of};
@@ -30,7 +30,7 @@ pub struct Plan {
 
 // The lowest place within reach that breaks the limit; a stretch that starts at index `from` holds it.
 fn first_bad(sub: Sub, w: Window, from: usize, numbers: &[f64]) -> Option<usize>
-    requires n_bound { (sub.first + sub.n ≤ 1024) × (from < sub.n) × (w.at < sub.n) × (w.reach ≤ 4) }
+    requires n_bound { Around sub w × (from < sub.n) }
     requires by_index { (i : ℕ) → i < sub.n → near w.reach sub.n sub.closed w.at i ≡ true → rolled sub.n from i * 12 + 12 ≤ length numbers.now }
     ensures { result ≡ first_bad (passes_near sub w (λ k. twelve_in numbers.now (rolled sub.n from (k - sub.first)))) (sub.first + sub.n) }
 {
@@ -52,7 +52,7 @@ pub fn plan_recut(
     s: Stretch,
     total: usize,
 ) -> Result<Plan, Refusal>
-    requires about { About sub w s × (sub.first + sub.n ≤ 1024) × (w.at < sub.n) × (w.reach ≤ 4) }
+    requires about { About sub w s × Around sub w }
     requires anchors_len { (length anchors.now ≡ 90) × (length radii.now ≡ 15) }
     ensures { IfOk result (λ p. p.total ≡ total) × ((v : View) → Stretched v kind sub s anchors.now radii.now → Decides v sub w result) }
 {
@@ -102,7 +102,7 @@ pub fn plan_put(
     radius: f64,
     total: usize,
 ) -> Result<Plan, Refusal>
-    requires { (sub.first + sub.n ≤ 1024) × (w.at < sub.n) × (w.reach ≤ 4) × ((sub.first + sub.n) * 6 ≤ length anchors.now) × (sub.first + sub.n ≤ length radii.now) }
+    requires { Around sub w × ((sub.first + sub.n) * 6 ≤ length anchors.now) × (sub.first + sub.n ≤ length radii.now) }
     ensures { IfOk result (λ p. p.total ≡ total) × ((v : View) → Put v kind sub w.at new radius anchors.now radii.now → Decides v sub w result) }
 {
     let s = stretch_of(sub, w);
@@ -131,7 +131,7 @@ pub fn write_places(
     numbers: &mut [f64],
     flags: &mut [u32],
 )
-    requires n_bound { (sub.first + sub.n ≤ 1024) × (from < sub.n) × (w.at < sub.n) × (w.reach ≤ 4) }
+    requires n_bound { Around sub w × (from < sub.n) }
     requires by_index { (i : ℕ) → i < sub.n → near w.reach sub.n sub.closed w.at i ≡ true → rolled sub.n from i < 15 }
     requires n_in_bounds { ((sub.first + sub.n) * 12 ≤ length numbers.old) × (sub.first + sub.n ≤ length flags.old) }
     ensures numbers { (v : View) → (v.n ≡ sub.n) × (v.closed ≡ sub.closed) × HoldsNumbers v sub w from made.now → numbers.new ≡ recut_numbers v sub.first w.reach w.at numbers.old }

@@ -3,7 +3,7 @@
 ghost use Rattle.std.specs.Prelude.{◌≡◌, ℕ, ◌+◌, ◌-◌, ◌*◌, ◌≤◌, ◌<◌, length};
 ghost use Rattle.cut.specs.Near.{old};
 ghost use Rattle.cut.specs.Unrolled.{unrolled, rolled};
-ghost use Rattle.recutting.specs.Stretch.{About, From};
+ghost use Rattle.recutting.specs.Stretch.{Start, About, From};
 
 use cut::{Indices, Sub, Window};
 
@@ -17,6 +17,7 @@ pub struct Stretch {
 }
 
 // The window with three anchors more on each side, as far as there are.
+// Kept: three facts by themselves, since Around would ask where the subpath ends in its path.
 pub fn stretch_of(sub: Sub, w: Window) -> Stretch
     requires { (w.at < sub.n) × (w.reach ≤ 4) × (sub.n ≤ 1024) }
     ensures { About sub w result }
@@ -50,14 +51,14 @@ pub fn stretch_of(sub: Sub, w: Window) -> Stretch
 
 // The subpath's index of index j of a stretch, and back.
 fn unrolled(n: usize, from: usize, j: usize) -> usize
-    requires { (from < n) × (j ≤ n) × (n ≤ 1024) }
+    requires { Start n from × (j ≤ n) }
     ensures { result ≡ unrolled n from j }
 {
     if from + j < n { from + j } else { from + j - n }
 }
 
 pub fn rolled(n: usize, from: usize, i: usize) -> usize
-    requires { (from < n) × (i < n) × (n ≤ 1024) }
+    requires { Start n from × (i < n) }
     ensures { result ≡ rolled n from i }
 {
     if from <= i { i - from } else { i + n - from }
@@ -80,7 +81,7 @@ pub struct Gathered {
 
 // The anchors of a stretch of a subpath in which one is to be put in after index `gap`, each as it was; past the end: none is.
 pub fn gather(anchors: &[f64], radii: &[f64], sub: Sub, s: Stretch, gap: usize) -> Gathered
-    requires n_bound { (sub.n ≤ 1024) × (s.from < sub.n) × (s.n ≤ sub.n) × (s.n ≤ 15) }
+    requires n_bound { Start sub.n s.from × (s.n ≤ sub.n) × (s.n ≤ 15) }
     requires by_index { (i : ℕ) → i < sub.n → ((sub.first + old gap i) * 6 + 6 ≤ length anchors.now) × (sub.first + old gap i < length radii.now) × (sub.first + old gap i ≤ 1024) }
     ensures { From anchors.now radii.now sub s gap result }
 {

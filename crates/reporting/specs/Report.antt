@@ -1,6 +1,6 @@
 -- What `edits` prints (docs/EDITS.md): a line for each call, then the text of the drawing as the calls leave it; or one refusal. Of the cache nothing is said:
 -- all follows from the job and the calls. Assumes nothing.
-use Rattle.std.specs.Prelude.{ℕ, ◌+◌, ◌*◌, Bool, cond, List, [], ◌∷◌, ◌++◌, leb, length, drop, Float, Result, Ok, Err}
+use Rattle.std.specs.Prelude.{ℕ, ◌+◌, ◌*◌, ◌≤◌, Bool, cond, List, [], ◌∷◌, ◌++◌, leb, length, drop, Float, Result, Ok, Err}
 use Rattle.views.specs.View.{entry}
 use Rattle.refusal.specs.declared.Refusal.{Refusal}
 use Rattle.refusal.specs.declared.Reason.TheVariants.{Unended, Arguments, Made}
@@ -23,11 +23,17 @@ use Rattle.printing.specs.Refused.{refused_text}
 use Rattle.printing.specs.Printed.{fitted}
 use Rattle.call_list.specs.Input.{calls_answer, codes_in, values_in}
 use Rattle.call_lines.specs.Lines.{passing, recut_text}
+use Rattle.reporting.specs.declared.reports.Reported.{Reported}
 
 -- the calls' lines, and the last line less its newline
 pub record Report : Type 0 where
   pub lines : List ℕ
   pub text : List ℕ
+
+-- how many bytes of each stand in the lists that they are put in: 256 lines of 42 bytes at most
+pub record Fitting (r : Reported) : Type 0 where
+  pub lines : r.lines ≤ 10752
+  pub text : r.text ≤ 65536
 
 abbrev pub report_of : List ℕ → List ℕ → Report
 report_of lines text = record { lines = lines; text = text }

@@ -6,7 +6,7 @@ ghost use Rattle.cache.proofs.Accepted.{Drawn};
 ghost use Rattle.refusal.specs.Reasons.{number_of};
 ghost use Rattle.replay.specs.Encoding.{calls_of, calls_known};
 ghost use Rattle.printing.specs.Refused.{refused_text};
-ghost use Rattle.reporting.specs.Report.{drawing, drawing_report, job_report, reported};
+ghost use Rattle.reporting.specs.Report.{Fitting, drawing, drawing_report, job_report, reported};
 
 use crate::outlines::put_outline;
 use call_lines::put_calls;
@@ -25,7 +25,7 @@ pub struct Reported {
 fn refuse(out: &mut [u8], why: Refusal) -> Reported
     ensures lines { result.lines ≡ 0 }
     ensures text { Put out.old 0 (refused_text (number_of why.reason) why.place) out.new result.text }
-    ensures room { result.text ≤ 65536 }
+    ensures room { Fitting result }
 {
     Reported {
         lines: 0,
@@ -48,7 +48,7 @@ fn report_drawing(
     requires calls { (length codes.now % 3 ≡ 0) × (length codes.now ≤ 768) × (length codes.now / 3 * 6 ≤ length values.now) }
     ensures lines { Put lines.old 0 (drawing_report (calls_known codes.now) (calls_of codes.now values.now) (drawing shapes.old anchors.old radii.old kind)).lines lines.new result.lines }
     ensures text { Put out.old 0 (drawing_report (calls_known codes.now) (calls_of codes.now values.now) (drawing shapes.old anchors.old radii.old kind)).text out.new result.text }
-    ensures room { (result.lines ≤ 10752) × (result.text ≤ 65536) }
+    ensures room { Fitting result }
 {
     let mut numbers = [0.0f64; 6144];
     let mut flags = [0u32; 512];
@@ -83,7 +83,7 @@ fn report_job(
     requires calls { (length codes.now % 3 ≡ 0) × (length codes.now ≤ 768) × (length codes.now / 3 * 6 ≤ length values.now) }
     ensures lines { Put lines.old 0 (job_report (calls_known codes.now) (calls_of codes.now values.now) bytes.now).lines lines.new result.lines }
     ensures text { Put out.old 0 (job_report (calls_known codes.now) (calls_of codes.now values.now) bytes.now).text out.new result.text }
-    ensures room { (result.lines ≤ 10752) × (result.text ≤ 65536) }
+    ensures room { Fitting result }
 {
     if bytes.len() > 32768 {
         return refuse(out, Reason::Unended.at(8192));
@@ -110,7 +110,7 @@ fn report_job(
 pub fn report(bytes: &[u8], lines: &mut [u8; 16384], out: &mut [u8; 65536]) -> Reported
     ensures lines { Put lines.old 0 (reported bytes.now).lines lines.new result.lines }
     ensures text { Put out.old 0 (reported bytes.now).text out.new result.text }
-    ensures room { (result.lines ≤ 10752) × (result.text ≤ 65536) }
+    ensures room { Fitting result }
 {
     let mut codes = [0u32; 768];
     let mut values = [0.0f64; 1536];

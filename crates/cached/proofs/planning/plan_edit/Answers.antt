@@ -97,7 +97,7 @@ plan_put-requires c =
     let i : a.at.anchor < c.sub_at-sub.result.n = rw c.sub_at-sub.ensures (one_inside l a.kind (anchor_call a.at a.e) a.at.subpath a.at.anchor (reach_of a.e) _ _ o _ t has) in
     let h = inside_of l a.at.subpath (one_stands l a.kind (anchor_call a.at a.e) a.at.subpath a.at.anchor (reach_of a.e) _ _ o _ t has) c.sub_at-sub.result c.sub_at-sub.ensures in
     let p = h.path in
-    (omega arith, i, rw c.reach.ensures (reach-small a.e), h.anchors, h.radii)
+    (record { few = omega arith; index = i; reach = rw c.reach.ensures (reach-small a.e) }, h.anchors, h.radii)
 
 pub returns : goal.returns
 unfolding sub_at

@@ -40,7 +40,7 @@ write_places-requires c =
     let h = inside_of (lent a.shapes.now a.anchors.now a.radii.now a.numbers.now a.flags.now) a.at.subpath w.stands c.sub_at-sub.result e in
     let p = h.path in
     record {
-      n_bound = (omega arith, rw e w.places.inside, rw e w.index, rw r (omega arith));
+      n_bound = (record { few = omega arith; index = rw e w.index; reach = rw r (omega arith) }, rw e w.places.inside);
       by_index = rw (r, e) w.places.few;
       n_in_bounds = (h.numbers, h.flags);
     }

@@ -6,4 +6,5 @@ use Rattle.cached_split.proofs.making.put_anchors.Goals as goal
 pub returns : goal.returns
 returns c =
     let a = c.args in
-    c.put_halves.ensures ∙ anchors_put a.anchors.now a.n a.a a.b a.t c.requires.1 c.requires.2 c.requires.3 c.requires.4 _ c.halved-h.ensures
+    let e = c.requires.ends in
+    c.put_halves.ensures ∙ anchors_put a.anchors.now a.n a.a a.b a.t e.from e.to e.apart c.requires.room _ c.halved-h.ensures

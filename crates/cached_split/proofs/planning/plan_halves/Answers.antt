@@ -20,7 +20,7 @@ rolled-end-requires c =
     let p = c.requires in
     let en = ap (λ x. x.n) c.grown-more.ensures in
     let q = c.next.ensures in
-    (c.stretch_of-s.ensures.inside, rw q (next-lt _ _ (omega (arith, p.n_bound.1))), omega (arith, p.n_bound.0))
+    (record { few = omega (arith, p.n_bound.0); inside = c.stretch_of-s.ensures.inside }, rw q (next-lt _ _ (omega (arith, p.n_bound.1))))
 
 pub put_anchor-requires : goal.put_anchor-requires
 put_anchor-requires c =

@@ -77,7 +77,7 @@ write_drawing-requires-clause-n_bound c =
     let y : c.next.result < c.sub_at-sub.result.n = rw (c.next.ensures, n) h.next-inside in
     let e : c.next.result ≡ next (count_of (word_at a.shapes.now a.at.subpath)) a.at.anchor = rw (c.next.ensures, n) in
     let k = g.count in
-    (omega (arith, g.few), omega (arith, h.inside, h.path), omega (arith, h.path), (λ q. h.other (omega arith)), omega (arith, h.anchors), omega (arith, h.radii))
+    (record { ends = record { from = omega (arith, h.inside, h.path); to = omega (arith, h.path); apart = λ q. h.other (omega arith); few = omega (arith, g.few) }; room = omega (arith, h.anchors) }, omega (arith, h.radii))
 
 pub shift_cache-requires : goal.shift_cache-requires
 unfolding sub_at
@@ -119,7 +119,7 @@ write_places-requires c =
     let lf = ap length sh.flags ∙ length-shifted a.flags.now _ _ in
     let w = made-places l a.kind a.at.subpath a.at.anchor a.t c.in_ok-plan.plan g in
     record {
-      n_bound = (omega (arith, h.path, g.few), rw (e, c.sub_at-sub.ensures) w.inside, omega (arith, h.inside), omega arith);
+      n_bound = (record { few = omega (arith, h.path, g.few); index = omega (arith, h.inside); reach = omega arith }, rw (e, c.sub_at-sub.ensures) w.inside);
       by_index = rw (e, c.sub_at-sub.ensures) w.few;
       n_in_bounds = (omega (arith, h.path, h.numbers), omega (arith, h.path, h.flags));
     }

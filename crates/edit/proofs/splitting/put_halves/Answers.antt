@@ -5,6 +5,6 @@ use Rattle.edit.proofs.splitting.put_halves.Goals as goal
 
 pub put_anchor-requires-3 : goal.put_anchor-requires-3
 put_anchor-requires-3 c =
-    let s = (ends_apart c.args.n c.args.a c.args.b c.requires.3 c.requires.4).place in
+    let s = (ends_apart c.args.n c.args.a c.args.b c.requires.ends.to c.requires.ends.apart).place in
     let e = c.shifted.ensures in
     search rules

@@ -4,6 +4,7 @@ use mathlib.Core.Path.{◌∙◌, sym}
 use Rattle.path.specs.Shape.{count_of, total, word_at, start, next}
 use Rattle.path.proofs.Shapes.{total_in}
 use Rattle.call.proofs.Openings.{path_opens}
+use Rattle.edit.specs.Split.{Ends}
 use Rattle.edit.proofs.Segments.{segment_says, next_other}
 use Rattle.edit.proofs.Outcomes.{split-refused, not_opened, no_parameter, no_subpath, no_segment, one_segment, unknown, full, then-between}
 use Rattle.edit.proofs.splitting.split.Goals as goal
@@ -58,39 +59,37 @@ next-requires c =
     let w = segment_says _ _ _ (sym told ∙ c.if-not-has_segment.false) in
     omega (arith, w.0, c.count_of-count.ensures)
 
--- the places of the segment's ends, where subpath s has m anchors
-ends : (shapes : List ℕ) (n s a first m b : ℕ) → n ≡ total shapes → s < length shapes → first ≡ start shapes s → m ≡ count_of (word_at shapes s) → b ≡ next m a → (a < m) × (1 < m)
-    → (first + a < n) × (first + b < n) × (first + a ≡ first + b → ⊥)
-ends shapes n s a first m b k l f e g w =
+-- the ends of the segment that starts at index a, where subpath s has m anchors
+ends : (shapes : List ℕ) (n s a first m b : ℕ) → n ≡ total shapes → s < length shapes → first ≡ start shapes s → m ≡ count_of (word_at shapes s) → b ≡ next m a → (a < m) × (1 < m) → n < 512
+    → Ends n (first + a) (first + b)
+ends shapes n s a first m b k l f e g w q =
     let o = next_other m a w.0 w.1 in
     let t = total_in shapes s l in
-    (omega (arith, w.0), omega (arith, o.0, g), λ x. o.1 (omega (arith, x, g)))
+    record { from = omega (arith, w.0); to = omega (arith, o.0, g); apart = λ x. o.1 (omega (arith, x, g)); few = q }
 
 pub overflow_add-b : goal.overflow_add-b
 overflow_add-b c =
     let told = rw c.closed_of.ensures at c.has_segment.ensures in
     let o = path_opens 512 _ _ _ (sym c.open_path.ensures ∙ c.in_ok-n.was) in
-    let e = ends c.args.shapes.now c.in_ok-n.n c.args.s c.args.a _ _ _ o.count (omega (arith, c.if-shapes-s.false)) c.start_of-first.ensures c.count_of-count.ensures c.next.ensures (segment_says _ _ _ (sym told ∙ c.if-not-has_segment.false)) in
-    record { fits = omega (arith, e.1, c.if-n-ge512.false) }
+    let e = ends c.args.shapes.now c.in_ok-n.n c.args.s c.args.a _ _ _ o.count (omega (arith, c.if-shapes-s.false)) c.start_of-first.ensures c.count_of-count.ensures c.next.ensures (segment_says _ _ _ (sym told ∙ c.if-not-has_segment.false)) (omega (arith, c.if-n-ge512.false)) in
+    record { fits = omega (arith, e.to, c.if-n-ge512.false) }
 
 -- the segment goes from a place of the path to another
-apart : (c : goal.After-split_between-arg-2-1) → let first = c.start_of-first.result in let b = first + c.next.result in
-    (first + c.args.a < c.in_ok-n.n) × (b < c.in_ok-n.n) × (first + c.args.a ≡ b → ⊥)
+apart : (c : goal.After-split_between-arg-2-1) → let first = c.start_of-first.result in Ends c.in_ok-n.n (first + c.args.a) (first + c.next.result)
 apart c =
     let told = rw c.closed_of.ensures at c.has_segment.ensures in
     let o = path_opens 512 _ _ _ (sym c.open_path.ensures ∙ c.in_ok-n.was) in
-    ends c.args.shapes.now c.in_ok-n.n c.args.s c.args.a _ _ _ o.count (omega (arith, c.if-shapes-s.false)) c.start_of-first.ensures c.count_of-count.ensures c.next.ensures (segment_says _ _ _ (sym told ∙ c.if-not-has_segment.false))
+    ends c.args.shapes.now c.in_ok-n.n c.args.s c.args.a _ _ _ o.count (omega (arith, c.if-shapes-s.false)) c.start_of-first.ensures c.count_of-count.ensures c.next.ensures (segment_says _ _ _ (sym told ∙ c.if-not-has_segment.false)) (omega (arith, c.if-n-ge512.false))
 
 pub overflow_add-first : goal.overflow_add-first
-overflow_add-first c = let e = apart c in record { fits = omega (arith, e.0, c.if-n-ge512.false) }
+overflow_add-first c = let e = apart c in record { fits = omega (arith, e.from, c.if-n-ge512.false) }
 
 pub split_between-requires : goal.split_between-requires
 split_between-requires c =
     let o = path_opens 512 _ _ _ (sym c.open_path.ensures ∙ c.in_ok-n.was) in
-    let e = apart c in
     let l : c.args.s < length c.args.shapes.now = omega (arith, c.if-shapes-s.false) in
     let k = o.count in
-    (l, omega (arith, total_in c.args.shapes.now c.args.s l, c.if-n-ge512.false), omega (arith, c.if-n-ge512.false), omega (arith, o.long), e.0, e.1, e.2, rw o.count o.good)
+    (record { there = l; few = omega (arith, total_in c.args.shapes.now c.args.s l, c.if-n-ge512.false) }, apart c, omega (arith, o.long), rw k o.good)
 
 pub returns : goal.returns
 returns c =

@@ -15,7 +15,7 @@ use Rattle.edit.proofs.splitting.split_between.Goals as goal
 
 pub first_out-requires : goal.first_out-requires
 first_out-requires c =
-    let s = ends_apart c.args.n c.args.a c.args.b c.requires.5 c.requires.6 in
+    let s = ends_apart c.args.n c.args.a c.args.b c.requires.1.to c.requires.1.apart in
     let e = c.shifted.ensures in
     (omega arith, rw e s.start, rw e s.middle)
 
@@ -31,16 +31,16 @@ pub returns-in-Some : goal.returns-in-Some
 returns-in-Some c =
     let a = c.args in
     let q = c.requires in
-    let f = told a.anchors.now a.n a.a a.b a.t _ _ _ _ _ q.5 q.6 q.4 c.anchor_at.ensures c.anchor_at-2.ensures c.halves-h.ensures c.shifted.ensures c.first_out.ensures in
-    let h = between-refused a.shapes.now a.anchors.now a.n a.s a.a a.b a.t _ (between_bad a.shapes.now a.anchors.now a.n a.s a.a a.b a.t q.4 q.7 _ (sym f ∙ c.in-Some.is)) in
+    let f = told a.anchors.now a.n a.a a.b a.t _ _ _ _ _ q.1.to q.1.apart q.1.from c.anchor_at.ensures c.anchor_at-2.ensures c.halves-h.ensures c.shifted.ensures c.first_out.ensures in
+    let h = between-refused a.shapes.now a.anchors.now a.n a.s a.a a.b a.t _ (between_bad a.shapes.now a.anchors.now a.n a.s a.a a.b a.t q.1.from q.3 _ (sym f ∙ c.in-Some.is)) in
     record { answer = rw c.at.ensures h.0; shapes = h.1; anchors = h.2 }
 
 pub returns-then-anchors-n : goal.returns-then-anchors-n
 returns-then-anchors-n c =
     let a = c.args in
     let q = c.requires in
-    let f = told a.anchors.now a.n a.a a.b a.t _ _ _ _ _ q.5 q.6 q.4 c.anchor_at.ensures c.anchor_at-2.ensures c.halves-h.ensures c.shifted.ensures c.first_out.ensures in
-    let h = between-refused a.shapes.now a.anchors.now a.n a.s a.a a.b a.t _ (between-short a.shapes.now a.anchors.now a.n a.s a.a a.b a.t q.4 q.7 (sym f ∙ c.in_default.is) (omega (arith, c.if-anchors-n.true))) in
+    let f = told a.anchors.now a.n a.a a.b a.t _ _ _ _ _ q.1.to q.1.apart q.1.from c.anchor_at.ensures c.anchor_at-2.ensures c.halves-h.ensures c.shifted.ensures c.first_out.ensures in
+    let h = between-refused a.shapes.now a.anchors.now a.n a.s a.a a.b a.t _ (between-short a.shapes.now a.anchors.now a.n a.s a.a a.b a.t q.1.from q.3 (sym f ∙ c.in_default.is) (omega (arith, c.if-anchors-n.true))) in
     record { answer = rw c.at-then-anchors-n.ensures h.0; shapes = h.1; anchors = h.2 }
 
 pub returns : goal.returns
@@ -48,8 +48,8 @@ unfolding split_shapes
 returns c =
     let a = c.args in
     let q = c.requires in
-    let f = told a.anchors.now a.n a.a a.b a.t _ _ _ _ _ q.5 q.6 q.4 c.anchor_at.ensures c.anchor_at-2.ensures c.halves-h.ensures c.shifted.ensures c.first_out.ensures in
-    let h = between_accepted a.shapes.now a.anchors.now a.n a.s a.a a.b a.t q.4 q.7 (sym f ∙ c.in_default.is) q.6 q.5 (omega (arith, c.if-anchors-n.false)) in
+    let f = told a.anchors.now a.n a.a a.b a.t _ _ _ _ _ q.1.to q.1.apart q.1.from c.anchor_at.ensures c.anchor_at-2.ensures c.halves-h.ensures c.shifted.ensures c.first_out.ensures in
+    let h = between_accepted a.shapes.now a.anchors.now a.n a.s a.a a.b a.t q.1.from q.3 (sym f ∙ c.in_default.is) q.1.apart q.1.to (omega (arith, c.if-anchors-n.false)) in
     let e = c.count_up.ensures in
     record {
       answer = rw (e, length-set a.shapes.now a.s (word_at a.shapes.now a.s + 1)) h.0;

@@ -9,4 +9,4 @@ pub returns : goal.returns
 returns c =
     let a = c.args in
     let r = length_rest a.target.anchors.now a.target.n a.target.at_start in
-    put-joined-is a.drawn.now a.to.now _ _ _ a.before a.joint _ (omega (arith, c.requires.5)) (c.copy.ensures nan) c.put_anchor.ensures c.put_rest.ensures
+    put-joined-is a.drawn.now a.to.now _ _ _ a.before a.joint _ (omega (arith, c.requires.room)) (c.copy.ensures nan) c.put_anchor.ensures c.put_rest.ensures

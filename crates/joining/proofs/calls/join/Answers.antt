@@ -29,7 +29,7 @@ first_bad_either-requires c =
     let a = c.args in
     let d = fits_says a.drawn_count a.drawn.now (sym c.list_fits.ensures ∙ c.if-not-list_fits.false) in
     let t = fits_says _ a.target.now (sym c.list_fits-else-not-list_fits.ensures ∙ c.if-not-list_fits-2.false) in
-    (d.0, d.1, t.0, t.1)
+    record { drawn = d; target = t }
 
 pub returns-in-Some : goal.returns-in-Some
 returns-in-Some c =
@@ -37,7 +37,7 @@ returns-in-Some c =
     let d = fits_says a.drawn_count a.drawn.now (sym c.list_fits.ensures ∙ c.if-not-list_fits.false) in
     let t = rw c.count_of-n.ensures at (fits_says _ a.target.now (sym c.list_fits-else-not-list_fits.ensures ∙ c.if-not-list_fits-2.false)) in
     let told = c.first_bad_either.ensures ∙ ap (λ (n : ℕ). first_bad (either_in a.drawn.now a.drawn_count a.target.now) (a.drawn_count + n)) c.count_of-n.ensures in
-    let h = join-refused a.drawn.now a.drawn_count a.target.now a.target_word a.at_start a.to_shapes.now a.to.now _ (out_of_limit _ _ _ _ _ _ _ d.0 d.1 t.0 t.1 _ (sym told ∙ c.in-Some.is)) in
+    let h = join-refused a.drawn.now a.drawn_count a.target.now a.target_word a.at_start a.to_shapes.now a.to.now _ (out_of_limit _ _ _ _ _ _ _ d t _ (sym told ∙ c.in-Some.is)) in
     record { answer = rw c.at-in-Some.ensures h.0; shapes = h.1; anchors = h.2 }
 
 pub join_opened-requires : goal.join_opened-requires
@@ -46,4 +46,4 @@ join_opened-requires c =
     let d = fits_says a.drawn_count a.drawn.now (sym c.list_fits.ensures ∙ c.if-not-list_fits.false) in
     let t = rw c.count_of-n.ensures at (fits_says _ a.target.now (sym c.list_fits-else-not-list_fits.ensures ∙ c.if-not-list_fits-2.false)) in
     let told = c.first_bad_either.ensures ∙ ap (λ (n : ℕ). first_bad (either_in a.drawn.now a.drawn_count a.target.now) (a.drawn_count + n)) c.count_of-n.ensures in
-    (d.0, d.1, t.0, t.1, (none_is _ _).0 (sym told ∙ c.in_default.is))
+    record { drawn = d; target = t; good = (none_is _ _).0 (sym told ∙ c.in_default.is) }

@@ -13,7 +13,7 @@ returns-in_err-k c =
 pub overflow_add-result : goal.overflow_add-result
 overflow_add-result c =
     let l = ((first_is _ _ _).0 (sym c.first_bad_of-2.ensures ∙ c.in_ok-k.was)).place in
-    record { fits = omega (arith, l, c.requires.0, c.requires.2) }
+    record { fits = omega (arith, l, c.requires.drawn.few, c.requires.target.few) }
 
 pub returns : goal.returns
 returns c =

@@ -12,8 +12,8 @@ one_word n w h e = omega arith
 
 pub first_bad_anchor-requires : goal.first_bad_anchor-requires
 first_bad_anchor-requires c =
-    let e = one_word _ _ c.requires.0 c.word.ensures in
-    (omega arith, omega (arith, e, c.requires.0), omega (arith, e, c.requires.1))
+    let e = one_word _ _ c.requires.few c.word.ensures in
+    (omega arith, omega (arith, e, c.requires.few), omega (arith, e, c.requires.long))
 
 pub returns : goal.returns
-returns c = c.first_bad_anchor.ensures ∙ ap (first_bad (anchor_in c.args.list.now)) (one_word _ _ c.requires.0 c.word.ensures)
+returns c = c.first_bad_anchor.ensures ∙ ap (first_bad (anchor_in c.args.list.now)) (one_word _ _ c.requires.few c.word.ensures)

@@ -16,7 +16,7 @@ find-requires-clause-callable c =
     serves_from_Range
     (λ x q k. search (rules, tests))
     (λ x low high.
-    let o = span-order a.sub a.w n.2 in
+    let o = span-order a.sub a.w n.0.index in
     let end = ap (λ z. z.to) c.span-there.ensures in
     let b : x < a.sub.n = omega (arith, o.1) in
     let i = index_back a.sub.n a.from x n.1 b in
@@ -28,7 +28,7 @@ returns-in_err-i c =
     let a = c.args in
     let t = λ (i : ℕ). twelve_in a.numbers.now (rolled a.sub.n a.from i) in
     let close = near a.w.reach a.sub.n a.sub.closed a.w.at in
-    let f = bad_found a.sub a.w t _ c.span-there.ensures c.requires.n_bound.2 c.find.result
+    let f = bad_found a.sub a.w t _ c.span-there.ensures c.requires.n_bound.0.index c.find.result
     (first_from_Range _ _ _ _ (λ i. (close i ≡ true) × (t i ≡ false)) (λ i. close i ≡ true → t i ≡ true) c.find.ensures.ran
     (λ x q k. search (rules, tests))
     (λ x q k. (search rules, search (rules, tests)))) in
@@ -39,7 +39,7 @@ overflow_add-result c =
     let a = c.args in
     let t = λ (i : ℕ). twelve_in a.numbers.now (rolled a.sub.n a.from i) in
     let close = near a.w.reach a.sub.n a.sub.closed a.w.at in
-    let f = bad_found a.sub a.w t _ c.span-there.ensures c.requires.n_bound.2 c.find.result
+    let f = bad_found a.sub a.w t _ c.span-there.ensures c.requires.n_bound.0.index c.find.result
     (first_from_Range _ _ _ _ (λ i. (close i ≡ true) × (t i ≡ false)) (λ i. close i ≡ true → t i ≡ true) c.find.ensures.ran
     (λ x q k. search (rules, tests))
     (λ x q k. (search rules, search (rules, tests)))) in
@@ -51,7 +51,7 @@ returns c =
     let a = c.args in
     let t = λ (i : ℕ). twelve_in a.numbers.now (rolled a.sub.n a.from i) in
     let close = near a.w.reach a.sub.n a.sub.closed a.w.at in
-    let f = bad_found a.sub a.w t _ c.span-there.ensures c.requires.n_bound.2 c.find.result
+    let f = bad_found a.sub a.w t _ c.span-there.ensures c.requires.n_bound.0.index c.find.result
     (first_from_Range _ _ _ _ (λ i. (close i ≡ true) × (t i ≡ false)) (λ i. close i ≡ true → t i ≡ true) c.find.ensures.ran
     (λ x q k. search (rules, tests))
     (λ x q k. (search rules, search (rules, tests)))) in

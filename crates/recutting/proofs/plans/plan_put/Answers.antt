@@ -15,4 +15,4 @@ returns c =
     let a = c.args in
     let s = c.stretch_of-s in
     let g = c.gather-g in
-    (c.plan_recut.ensures.0, λ v f. c.plan_recut.ensures.1 v (rw c.put_anchor.ensures (stretch_put a.sub a.w s.result s.ensures c.requires.1 v a.kind a.new a.radius a.anchors.now a.radii.now f g.result g.ensures)))
+    (c.plan_recut.ensures.0, λ v f. c.plan_recut.ensures.1 v (rw c.put_anchor.ensures (stretch_put a.sub a.w s.result s.ensures c.requires.0.index v a.kind a.new a.radius a.anchors.now a.radii.now f g.result g.ensures)))

@@ -15,7 +15,7 @@ pub loop-i-init : goal.loop-i-init
 loop-i-init c =
     let a = c.args in
     let e = c.span-there.ensures in
-    let o = span-order a.sub a.w c.requires.n_bound.2 in
+    let o = span-order a.sub a.w c.requires.n_bound.0.index in
     let x = o.0 in
     let y = o.1 in
     let far : (j : ℕ) → 0 ≤ j → j < (span_of a.w.reach a.sub.n a.sub.closed a.w.at).from → near a.w.reach a.sub.n a.sub.closed a.w.at j ≡ false = λ j g h. before-span a.w.reach a.sub.n a.sub.closed a.w.at j (omega arith) h in

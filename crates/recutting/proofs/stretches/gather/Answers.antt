@@ -30,28 +30,28 @@ pub overflow_add-i : goal.overflow_add-i
 overflow_add-i c =
     let a = c.args in
     let b = c.requires.n_bound in
-    let s = stands a.anchors.now a.radii.now a.sub.first a.sub.n a.s.from a.gap c.loop-j.j _ _ c.requires.by_index b.1 (omega arith) c.unrolled.ensures c.stood.ensures in
+    let s = stands a.anchors.now a.radii.now a.sub.first a.sub.n a.s.from a.gap c.loop-j.j _ _ c.requires.by_index b.0.inside (omega arith) c.unrolled.ensures c.stood.ensures in
     record { fits = omega (arith, s.small) }
 
 pub anchor_at-requires : goal.anchor_at-requires
 anchor_at-requires c =
     let a = c.args in
     let b = c.requires.n_bound in
-    let s = stands a.anchors.now a.radii.now a.sub.first a.sub.n a.s.from a.gap c.loop-j.j _ _ c.requires.by_index b.1 (omega arith) c.unrolled.ensures c.stood.ensures in
+    let s = stands a.anchors.now a.radii.now a.sub.first a.sub.n a.s.from a.gap c.loop-j.j _ _ c.requires.by_index b.0.inside (omega arith) c.unrolled.ensures c.stood.ensures in
     omega (arith, s.long)
 
 pub offset_bounds-radii-i : goal.offset_bounds-radii-i
 offset_bounds-radii-i c =
     let a = c.args in
     let b = c.requires.n_bound in
-    let s = stands a.anchors.now a.radii.now a.sub.first a.sub.n a.s.from a.gap c.loop-j.j _ _ c.requires.by_index b.1 (omega arith) c.unrolled.ensures c.stood.ensures in
+    let s = stands a.anchors.now a.radii.now a.sub.first a.sub.n a.s.from a.gap c.loop-j.j _ _ c.requires.by_index b.0.inside (omega arith) c.unrolled.ensures c.stood.ensures in
     record { fits = omega (arith, s.small) }
 
 pub bounds-radii-i : goal.bounds-radii-i
 bounds-radii-i c =
     let a = c.args in
     let b = c.requires.n_bound in
-    (stands a.anchors.now a.radii.now a.sub.first a.sub.n a.s.from a.gap c.loop-j.j _ _ c.requires.by_index b.1 (omega arith) c.unrolled.ensures c.stood.ensures).round
+    (stands a.anchors.now a.radii.now a.sub.first a.sub.n a.s.from a.gap c.loop-j.j _ _ c.requires.by_index b.0.inside (omega arith) c.unrolled.ensures c.stood.ensures).round
 
 pub loop-j-preserved : goal.loop-j-preserved
 loop-j-preserved c =

@@ -13,7 +13,7 @@ pub returns-in-Err : goal.returns-in-Err
 returns-in-Err c =
     let f = c.refuse.ensures in
     let e = report-refused _ _ (sym c.in-Err.ensures.answer) in
-    record { lines = rw (← e, f.lines) (nothing _ 0); text = rw (← e) f.text; room = (omega (arith, f.lines), f.room) }
+    record { lines = rw (← e, f.lines) (nothing _ 0); text = rw (← e) f.text; room = f.room }
 
 pub overflow_mul-job : goal.overflow_mul-job
 overflow_mul-job c = record { fits = omega (arith, (reads _ _ (sym c.in-Ok.ensures.answer)).few) }

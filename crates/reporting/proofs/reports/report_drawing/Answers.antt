@@ -12,7 +12,7 @@ returns-in-Err c =
     let q = c.requires in
     let f = c.refuse.ensures in
     let e = refused-drawing _ _ _ _ _ _ q.drawing.0 q.drawing.1 q.drawing.2 q.calls.0 q.calls.1 q.calls.2 _ _ _ refl refl refl _ (sym c.in-Err.ensures.answer) in
-    record { lines = rw (← e, f.lines) (nothing _ 0); text = rw (← e) f.text; room = (omega (arith, f.lines), f.room) }
+    record { lines = rw (← e, f.lines) (nothing _ 0); text = rw (← e) f.text; room = f.room }
 
 pub put_calls-requires : goal.put_calls-requires
 put_calls-requires c =
@@ -39,5 +39,5 @@ returns-in-Ok c =
     record {
       lines = rw t.report p.text;
       text = rw t.report o;
-      room = (omega (arith, t.few, p.room), omega (arith, o.end, fitted-room (held_text n.shapes n.numbers n.flags)));
+      room = record { lines = omega (arith, t.few, p.room); text = omega (arith, o.end, fitted-room (held_text n.shapes n.numbers n.flags)) };
     }

@@ -13,7 +13,7 @@ returns-then-bytes-gt32768 c =
     let s = c.args in
     let f = c.refuse.ensures in
     let e = report_long (calls_known s.codes.now) (calls_of s.codes.now s.values.now) s.bytes.now c.if-bytes-gt32768.true in
-    record { lines = rw (← e, f.lines) (nothing _ 0); text = rw (← e) (rw c.at.ensures at f.text); room = (omega (arith, f.lines), f.room) }
+    record { lines = rw (← e, f.lines) (nothing _ 0); text = rw (← e) (rw c.at.ensures at f.text); room = f.room }
 
 pub slice_bounds-shapes-end : goal.slice_bounds-shapes-end
 slice_bounds-shapes-end c = omega (arith, (read-given _ _ _ _ refl refl refl (omega arith) _ (sym c.in-Ok.ensures.answer)).few_words)
@@ -41,7 +41,7 @@ returns-in-Err c =
     record {
       lines = rw (← e, f.lines) (nothing _ 0);
       text = rw (← e) f.text;
-      room = (omega (arith, f.lines), f.room);
+      room = f.room;
     }
 
 pub returns-in-Ok : goal.returns-in-Ok
