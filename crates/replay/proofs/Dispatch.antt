@@ -20,15 +20,15 @@ use Rattle.session.specs.Calls.{call_answer, call_lists}
 use Rattle.cached.specs.Doing.{Does}
 use Rattle.replay.specs.declared.kind.CallKind.{CallKind}
 use Rattle.replay.specs.declared.kind.CallKind.TheVariants.{Split}
-use Rattle.replay.specs.Kinds.{kind_of, call_as}
+use Rattle.replay.specs.Kinds.{call_kind, call_as}
 use Rattle.replay.specs.Encoding.{call_of, call_at, answer_words, Small, subpath_of}
 use Rattle.replay.specs.Replay.{call_words}
 use Rattle.replay.proofs.Bounds.{small-answer}
 use Rattle.refusal.specs.declared.Refusal.{Refusal}
 
 -- ---- which of the three: its kind, and a split where the number is no kind's
-call_is : {E : Type 0} (e : E) (which s i : ℕ) (given : Anchor) → call_as (result_unwrap_or (ok_or (kind_of which) e) Split) s i given ≡ call_of which s i given
-unfolding kind_of call_as call_of
+call_is : {E : Type 0} (e : E) (which s i : ℕ) (given : Anchor) → call_as (result_unwrap_or (ok_or (call_kind which) e) Split) s i given ≡ call_of which s i given
+unfolding call_kind call_as call_of
 call_is e zero s i given = refl
 call_is e (suc zero) s i given = refl
 call_is e (suc (suc zero)) s i given = refl
@@ -52,7 +52,7 @@ module _ (codes : List ℕ) (values : List Float) (j : ℕ) where
   abbrev i : ℕ
   i = get_or codes (j * 3 + 2) 0
 
-  pub call_read : {E : Type 0} (e : E) (tried : Result CallKind E) (which : CallKind) (given : Anchor) → tried ≡ ok_or (kind_of (get_or codes (j * 3) 0)) e
+  pub call_read : {E : Type 0} (e : E) (tried : Result CallKind E) (which : CallKind) (given : Anchor) → tried ≡ ok_or (call_kind (get_or codes (j * 3) 0)) e
       → which ≡ result_unwrap_or tried Split → given ≡ anchor_at values j → call_as which s i given ≡ call_at codes values j
   unfolding call_at
   call_read e tried which given is-tried is-which is-given = rw (is-which, is-tried, is-given) (call_is e (get_or codes (j * 3) 0) s i (anchor_at values j))

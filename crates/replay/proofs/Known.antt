@@ -19,7 +19,7 @@ use Rattle.views.specs.View.{tabulate}
 use Rattle.views.proofs.Laws.{length-tabulate, at_tabulate, tabulate_cong}
 use Rattle.views.proofs.Searches.{all_cong}
 use Rattle.replay.specs.Encoding.{calls_known}
-use Rattle.replay.specs.Kinds.{kind_of}
+use Rattle.replay.specs.Kinds.{call_kind}
 
 -- ---- the first words
 unfoldable pub firsts : List ℕ → List ℕ
@@ -48,8 +48,8 @@ every_first {s} codes n e =
     rw (← e) (YieldsList-from_shown_while chunks_exact_steps (λ x. get_or x.now 0 0) (λ t. firsts (chunks_exact_rest t)) (λ t. chunks_exact_size t ≡ 3) none some s n)
 
 -- ---- which are a kind's
-pub known : {E : Type 0} (e : E) (w : ℕ) → is_ok (ok_or (kind_of w) e) ≡ leb w 2
-unfolding kind_of
+pub known : {E : Type 0} (e : E) (w : ℕ) → is_ok (ok_or (call_kind w) e) ≡ leb w 2
+unfolding call_kind
 known e zero = refl
 known e (suc zero) = refl
 known e (suc (suc zero)) = refl

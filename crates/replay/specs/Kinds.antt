@@ -5,12 +5,12 @@ use Rattle.session.specs.Edits.{Call, move, set_radius, split}
 use Rattle.replay.specs.declared.kind.CallKind.{CallKind}
 use Rattle.replay.specs.declared.kind.CallKind.TheVariants.{Move, Radius, Split}
 
--- a call's first word
-unfoldable pub kind_of : ℕ → Option CallKind
-kind_of zero = Some Move
-kind_of (suc zero) = Some Radius
-kind_of (suc (suc zero)) = Some Split
-kind_of (suc (suc (suc n))) = None
+-- the kind that the first word of a call names
+unfoldable pub call_kind : ℕ → Option CallKind
+call_kind zero = Some Move
+call_kind (suc zero) = Some Radius
+call_kind (suc (suc zero)) = Some Split
+call_kind (suc (suc (suc n))) = None
 
 -- the call of a kind: an anchor is moved to the six numbers, its radius set to the first of them, a segment split at the first
 unfoldable pub call_as : CallKind → ℕ → ℕ → Anchor → Call

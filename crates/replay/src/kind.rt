@@ -1,7 +1,7 @@
 // `CallKind`: the calls that a list holds.
 ghost use Rattle.std.specs.Prelude.{◌≡◌};
 ghost use Rattle.std.specs.Option.{ok_or};
-ghost use Rattle.replay.specs.Kinds.{kind_of};
+ghost use Rattle.replay.specs.Kinds.{call_kind};
 
 #[derive(Clone, Copy, Debug, PartialEq, Eq, Hash)]
 pub enum CallKind {
@@ -23,7 +23,7 @@ pub struct UnknownKind {
 impl TryFrom<u32> for CallKind {
     type Error = UnknownKind;
 
-    ghost try_from_gives = { λ number r. r ≡ ok_or (kind_of number) (record { number = number }) };
+    ghost try_from_gives = { λ number r. r ≡ ok_or (call_kind number) (record { number = number }) };
 
     fn try_from(number: u32) -> Result<CallKind, UnknownKind> {
         match number {
