@@ -15,11 +15,17 @@ fn within_limit(limit: f64, x: f64) -> bool
     -limit <= x && x <= limit
 }
 
-// Whether each number of a list is. No number decides a branch, so the compiler can test several at once.
+// Whether each number of a list is. No number decides a branch, so the tests of several overlap; `filter(..).count()` branches at each.
 pub fn all_within(limit: f64, list: &[f64]) -> bool
     ensures { result ≡ all (λ i. within_limit limit (entry list.now i)) (length list.now) }
 {
-    list.iter().filter(|x| !within_limit(limit, **x)).count() == 0
+    let mut outside: usize = 0;
+    for x in list {
+        if !within_limit(limit, *x) {
+            outside += 1;
+        }
+    }
+    outside == 0
 }
 
 fn all_in_limit(list: &[f64]) -> bool

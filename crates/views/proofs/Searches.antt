@@ -92,6 +92,17 @@ first_count p (suc n) h = go (p zero) refl (first_count (λ k. p (suc k)) n (λ 
     go true e r = ap suc r
     go false e r = sym (count_none (λ k. p (suc k)) n (λ k l. stays p (suc n) h e (suc k) (suc-le-suc l)))
 
+-- all pass where none is counted that does not
+pub none_counted : (p : ℕ → Bool) (n : ℕ) → eqb (count (λ k. not (p k)) n) 0 ≡ all p n
+unfolding count all
+none_counted p zero = refl
+none_counted p (suc n) = go (p zero) (none_counted (λ k. p (suc k)) n)
+  where
+    go : (b : Bool) → eqb (count (λ k. not (p (suc k))) n) 0 ≡ all (λ k. p (suc k)) n
+        → eqb (cond (not b) (suc (count (λ k. not (p (suc k))) n)) (count (λ k. not (p (suc k))) n)) 0 ≡ (b && all (λ k. p (suc k)) n)
+    go true e = e
+    go false e = ne_eqb (suc (count (λ k. not (p (suc k))) n)) 0 (λ h. omega arith)
+
 -- ---- one place more
 count-suc : (p : ℕ → Bool) (n : ℕ) → count p (suc n) ≡ count p n + cond (p n) 1 0
 unfolding count
