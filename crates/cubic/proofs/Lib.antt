@@ -1,3 +1,4 @@
+pub mod StepCounts
 pub mod DeCasteljau
 pub mod Chords
 pub mod FiniteChords

@@ -63,12 +63,33 @@ then {t} {m} {n} {a} {b} h p q =
       list = q.list ∙ ap (λ k. sets m.out.now k b) p.end ∙ ap (λ k. sets k (counted (t.at + length a)) b) p.list ∙ sets_counted (sets t.out.now t.at a) b (t.at + length a) l ∙ sym (sets_append a b t.out.now t.at);
     }
 
+-- a text put into a list from a place on, whose end a usize counts to
+pub from_place : {t m : Text} {l a : List ℕ} {at : ℕ} → t.out.now ≡ l → t.at ≡ at → Adds t a m → at + length a < 2 ^ 64 → Put l at a m.out.now m.at
+from_place {a = a} e z p h = record { end = omega (arith, p.end, z); list = p.list ∙ ap₂ (λ k i. sets k i a) e z }
+
 -- a text put into a list from its start, of fewer bytes than the largest number: it was counted whole
 pub from_start : {t m : Text} {l a : List ℕ} → t.out.now ≡ l → t.at ≡ 0 → Adds t a m → m.at + 1 < 2 ^ 64 → Put l 0 a m.out.now m.at
-from_start {a = a} e z p h = record { end = omega (arith, p.end); list = p.list ∙ ap₂ (λ k i. sets k i a) e z }
+from_start e z p h = from_place e z p (omega (arith, p.end, z))
 
+-- ---- the same of a list and a place
+
+-- a text past the end is counted and not stored
+pub put_past : (l : List ℕ) (at to : ℕ) (a : List ℕ) → length l ≤ at → to ≡ at + length a → Put l at a l to
+put_past l at to a h e = record { end = e; list = sym (sets_past a l at h) }
+
+-- one text after another
+pub put_then : {l m n : List ℕ} {at to next : ℕ} {a b : List ℕ} → Put l at a m to → Put m to b n next → Put l at (a ++ b) n next
+put_then {l} {m} {n} {at} {to} {next} {a} {b} p q = record {
+  end = q.end ∙ ap (λ k. k + length b) p.end ∙ (let e : length (a ++ b) ≡ length a + length b = length-append a b in omega arith);
+  list = q.list ∙ ap (λ k. sets m k b) p.end ∙ ap (λ k. sets k (at + length a) b) p.list ∙ sym (sets_append a b l at);
+}
+
+-- no text
 pub nothing : (l : List ℕ) (at : ℕ) → Put l at [] l at
 nothing l at = record { end = sym (add-zero at); list = refl }
+
+pub keeps : (l m : List ℕ) (at to : ℕ) (a : List ℕ) → Put l at a m to → length m ≡ length l
+keeps l m at to a p = ap length p.list ∙ length-sets l at a
 
 -- where there is room the list is what was before, the text, and what was after
 pub roomy : (l m : List ℕ) (at to : ℕ) (a : List ℕ) → Put l at a m to → at + length a ≤ length l → m ≡ take at l ++ a ++ drop (at + length a) l

@@ -67,6 +67,12 @@ thousandths_value (fin t m e) s a c C p =
     closest_same (m * up e * 1000) (down e) (a * 1000) c (down_pos e) C
     (mul_right_comm (m * up e) 1000 c ∙ ap (λ z. z * 1000) p.1 ∙ mul_right_comm a (down e) 1000)
 
+pub sign_value : (x : Float) (s : Bool) (a c : ℕ) → HasValue x s a c → sign_of x ≡ s
+unfolding sign_of
+sign_value nan s a c p = absurd p
+sign_value (inf t) s a c p = absurd p
+sign_value (fin t m e) s a c p = p.0
+
 pub limit_value : (x : Float) (s : Bool) (a c : ℕ) → in_limit x ≡ true → HasValue x s a c → a ≤ 131072 * c
 unfolding in_limit
 limit_value nan s a c l p = absurd p
@@ -128,6 +134,9 @@ module _ (b : ℕ) (l : in_limit (of_bits binary64 b) ≡ true) where
   bits_value =
       subst (λ v. HasValue v (leb (2 ^ 63) b) (units (b / 2 ^ 52 % 2048) (b % 2 ^ 52)) (2 ^ 1074)) (sym (of_bits_is b))
       (fields_value (leb (2 ^ 63) b) (b / 2 ^ 52 % 2048) (b % 2 ^ 52) finite_field)
+
+  pub bits-sign : sign_of (of_bits binary64 b) ≡ leb (2 ^ 63) b
+  bits-sign = sign_value _ _ _ _ bits_value
 
 -- ---- the field of a number within the limit
 small_field : (x t : ℕ) → units x t ≤ 131072 * 2 ^ 1074 → x ≤ 1040

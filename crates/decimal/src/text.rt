@@ -18,6 +18,15 @@ impl<'a> Text<'a> {
         Text { out, at: 0 }
     }
 
+    // The same from a place of the list on, which may lie past its end.
+    pub fn at(out: &'a mut [u8], at: usize) -> Text<'a>
+        ensures same_list { result.out.ghost_name ≡ out.entry.ghost_name }
+        ensures untouched { result.out.now ≡ out.old }
+        ensures place { result.at ≡ at }
+    {
+        Text { out, at }
+    }
+
     // How many bytes were put, stored or not.
     pub fn len(&self) -> usize
         ensures { result ≡ self.now.at }

@@ -1,14 +1,15 @@
 -- Sums of floats that are not negative: fl(x + y) is no smaller than x, and what is below a bound stays below it under an order. Any format. Assumes nothing.
 use mathlib.Core.Path.{◌≡◌, refl, sym, ap, ◌∙◌, subst}
 use mathlib.Core.Logic.{⊎_elim}
-use mathlib.Core.Bool.{Bool, true, false, not, ◌&&◌}
+use mathlib.Core.Bool.{Bool, true, false, not, ◌&&◌, cond, beq}
 use Prim.Native.Nat.{ℕ, zero, suc, ◌+◌, ◌-◌, ◌*◌, ◌%◌, ◌^◌, ◌≤◌, ◌<◌}
 use native.Mathlib.Nat.{le_trans, le_of_eq, le_refl, lt_of_lt_of_le, lt_of_le_of_lt, not-le_of_lt, mul_comm, mul_assoc, mul_left_comm, mul-one, zero-mul, mul-le-mul_right, mul-lt-mul_of_pos_right, mul-pos, le-add_right}
 use native.Mathlib.Omega.{arith}
 use lib.Dec.{T, leb, ltb, eqb, leb→le, ltb→lt, lit<}
 use lib.Pow.{pow-add, pow_pos, pow-lt, pow_mono, shl_lt}
 use lib.IntN.{ℤ, pos, negsuc}
-use lib.Ieee.{Float, nan, inf, fin, Format, prec, emax, low, up, down, unlike, is_nan, round, sum, add, mul, lt, le, fits}
+use lib.Ieee.{Float, nan, inf, fin, Format, prec, emax, low, up, down, unlike, is_nan, odd, units, round, sum, add, mul, lt, le, fits}
+use lib.Ieee.Scale.{finite}
 use lib.Ieee.Fits.{reach, down_pos, and_l, and_r}
 use lib.Ieee.Digits.{back}
 use lib.Ieee.Exact.{HasValue, round_exact}
@@ -116,7 +117,20 @@ add_grows f (fin false m e) (fin false n d) t p q =
     (rounded f m e t)
     (round_mono f (m * up e) (down e) (m * up e * down d + n * up d * down e) (down e * down d) (down_pos e) (mul-pos (down_pos e) (down_pos d)) (more (m * up e) (n * up d * down e) (down e) (down d)))
 
--- ---- what keeps a square from being negative
+-- ---- what keeps a number from being a NaN, and a square from being negative
+units_not_nan : (f : Format) (s : Bool) (q k : ℕ) → T (not (is_nan (units f s q k)))
+unfolding units odd is_nan
+units_not_nan f s q k = go (ltb (q * 2 ^ k) (2 ^ (low f + suc (emax f)))) q
+  where
+    go : (t : Bool) (q : ℕ) → T (not (is_nan (cond t (odd (suc (prec f)) s q k (low f)) (inf s))))
+    go true zero = tt
+    go true (suc q) = tt
+    go false q = tt
+
+round-not_nan : (f : Format) (s : Bool) (a b : ℕ) → T (not (is_nan (round f s a b)))
+unfolding round
+round-not_nan f s a b = units_not_nan f s _ _
+
 unlike_self : (s : Bool) → unlike s s ≡ false
 unlike_self true = refl
 unlike_self false = refl
@@ -126,3 +140,18 @@ unfolding mul is_nan
 square-nonneg f nan p = absurd p
 square-nonneg f (inf s) p = rw (unlike_self s) tt
 square-nonneg f (fin s m e) p = rw (unlike_self s) (round-nonneg f (m * up e * (m * up e)) (down e * down e))
+
+both : (f : Format) (b c : Bool) (x y z : Float) → T (not (is_nan x)) → T (not (is_nan y)) → T (not (is_nan z)) → T (not (is_nan (cond b x (cond c y z))))
+both f true c x y z p q r = p
+both f false true x y z p q r = q
+both f false false x y z p q r = r
+
+-- a sum of two finite numbers is no NaN
+pub add-not_nan : (f : Format) (x y : Float) → T (finite x) → T (finite y) → T (not (is_nan (add f x y)))
+unfolding add sum
+add-not_nan f nan y p q = absurd p
+add-not_nan f (inf s) y p q = absurd p
+add-not_nan f (fin s m e) nan p q = absurd q
+add-not_nan f (fin s m e) (inf t) p q = absurd q
+add-not_nan f (fin s m e) (fin t n d) p q =
+    both f (beq s t) (ltb (m * up e * down d) (n * up d * down e)) _ _ _ (round-not_nan f s _ _) (round-not_nan f t _ _) (round-not_nan f _ _ _)

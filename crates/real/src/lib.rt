@@ -37,6 +37,7 @@ pub fn clamp(x: f64, low: f64, high: f64) -> f64
 }
 
 // x with its sign cleared, that of -0 too.
+#[tactic(auto, using(crate::proofs::Signs::cleared))]
 pub fn abs(x: f64) -> f64
     ensures { result ≡ abs x }
 {

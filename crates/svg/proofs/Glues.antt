@@ -27,19 +27,19 @@ glue_one (suc k) c l t e = rw (eqb-suc-zero k) (ap (λ z. 32 ∷ z) (append-nil 
 abbrev pub point_text : P → List ℕ
 point_text p = float_text p.x ++ 32 ∷ float_text p.y
 
-text_move : (p : P) → command_text (move_to p) ≡ 77 ∷ point_text p
+pub text_move : (p : P) → command_text (move_to p) ≡ 77 ∷ point_text p
 unfolding command_text move_to pair_text float_text
 text_move p = refl
 
-text_line : (p : P) → command_text (line_to p) ≡ 76 ∷ point_text p
+pub text-line : (p : P) → command_text (line_to p) ≡ 76 ∷ point_text p
 unfolding command_text line_to pair_text float_text
-text_line p = refl
+text-line p = refl
 
 pub glue_move : (at : ℕ) (p : P) → glue at (move_to p ∷ []) ≡ cond (eqb at 0) (77 ∷ []) (32 ∷ 77 ∷ []) ++ point_text p
 glue_move at p = glue_one at (move_to p) 77 _ (text_move p)
 
 pub glue_line : (at : ℕ) (p : P) → glue at (line_to p ∷ []) ≡ cond (eqb at 0) (76 ∷ []) (32 ∷ 76 ∷ []) ++ point_text p
-glue_line at p = glue_one at (line_to p) 76 _ (text_line p)
+glue_line at p = glue_one at (line_to p) 76 _ (text-line p)
 
 pub text-curve : (a b p : P) → command_text (curve_to a b p) ≡ 67 ∷ (point_text a ++ 32 ∷ point_text b ++ 32 ∷ point_text p)
 unfolding command_text curve_to pair_text float_text

@@ -2,11 +2,15 @@
 use Rattle.std.proofs.Common.{suc, ◌≡◌, ◌+◌, ◌-◌, ◌%◌, sym, ap, ◌∙◌, arith}
 use lib.ListN.{set, drop, length-drop}
 use lib.Seq.{sets}
+use Rattle.decimal.specs.Put.{Adds}
 use Rattle.decimal.specs.Text.{whole_text}
-use Rattle.decimal.proofs.Digits.{last_of}
+use Rattle.decimal.proofs.Digits.{whole-small, last_of}
 use Rattle.decimal.proofs.Puts.{sets_first, sets_first_past}
 use Rattle.decimal.proofs.text.Text.put_whole.Goals as goal
 use Rattle.decimal.proofs.text.Text.put_whole.Goals.{then-i-room, else-i-room}
+
+pub returns-then-n-lt10 : goal.returns-then-n-lt10
+returns-then-n-lt10 c = rw (whole-small c.args.n c.if-n-lt10.true) c.put_digit.ensures
 
 pub loop-i-preserved : goal.loop-i-preserved
 loop-i-preserved c =

@@ -12,13 +12,13 @@ returns-clause-text c =
     let t = c.thousandths-t.ensures in
     elim c.if-t-ne0.branch [
       | then-t-ne0+then-negative w ↦
-          rw (text-negative c.args.x (λ e. w.if-t-ne0.true (t ∙ e)) (sym w.negative.ensures ∙ w.if-negative.true), ← t)
+          rw (text-negative c.args.x (λ e. omega (arith, t, w.if-t-ne0.true)) (sym w.negative.ensures ∙ w.if-negative.true), ← t)
           (then h w.put.ensures (rw w.self-is at c.put_size.ensures))
       | else-t-ne0 w ↦
           let put = rw w.self-is at c.put_size.ensures in
           elim w.else-t-ne0.branch [
             | else-t-ne0-via-then-t-ne0+else-negative v ↦ rw (text_positive c.args.x (sym v.negative.ensures ∙ v.if-negative.false), ← t) put
-            | else-t-ne0-via-else-t-ne0 v ↦ rw (text-zero c.args.x (sym t ∙ v.if-t-ne0.false), ← t) put
+            | else-t-ne0-via-else-t-ne0 v ↦ rw (text-zero c.args.x (omega (arith, t, v.if-t-ne0.false)), ← t) put
           ]
     ]
 
