@@ -22,6 +22,7 @@ none_some d e = let z : ◌≡◌ {A = ℕ} 0 1 = cc in omega arith
 pub nothing : (chords : ℕ) (r k : Option Corner) → r ≡ None → k ≡ None → Unmeasured chords r k
 nothing chords r k e f = record {
   is = rw (e, f) refl;
+  long = λ d h. absurd (none_some d (sym e ∙ h));
   lines = λ d h. absurd (none_some d (sym e ∙ h));
 }
 
@@ -46,3 +47,12 @@ module _ (chords : ℕ) (c : Corner) (u : long_enough c.lu ≡ long_enough (leng
   sharp-measured =
       let s = lt 1e-6 (sin c) in
       sym (sides s c.lu c.lv) ∙ ap₂ (λ a b. s && a && b) u v ∙ sides s (length_of chords c.side_u) (length_of chords c.side_v)
+
+-- and its first side is then long
+pub sharp_long : (c : Corner) → sharp c ≡ true → lt CEPS c.lu ≡ true
+unfolding sharp
+sharp_long c e = go (lt CEPS c.lu) e
+  where
+    go : (b : Bool) → (b && lt CEPS c.lv && is_finite c.lu && is_finite c.lv && lt 1e-6 (sin c)) ≡ true → b ≡ true
+    go true h = refl
+    go false h = h

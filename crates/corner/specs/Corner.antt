@@ -1,5 +1,5 @@
 -- Corners and the radii that fit them, after 000's `Corner`. Assumes nothing.
-use Rattle.std.specs.Prelude.{ℕ, ◌≡◌, Bool, ◌&&◌, cond, Option, Some, None, option_map, Float}
+use Rattle.std.specs.Prelude.{ℕ, ◌≡◌, Bool, true, ◌&&◌, cond, Option, Some, None, option_map, Float}
 use Rattle.std.specs.Float.{binary64}
 use Rattle.std.specs.Float.Ieee.{of_bits, lt}
 use Rattle.real.specs.Operators.{◌⊕◌, ◌⊖◌, ◌⊗◌, ◌⊘◌, 0f, 1f, 2f}
@@ -42,9 +42,10 @@ with_lengths chords c = record {
   side_v = c.side_v;
 }
 
--- a corner, if there is one, before its curved sides are measured: in the place of their lengths are other numbers
+-- a corner, if there is one, before its curved sides are measured: in the place of their lengths are other numbers, the first above 1e-9
 pub record Unmeasured (chords : ℕ) (c k : Option Corner) : Type 0 where
   pub is : option_map (with_lengths chords) c ≡ k
+  pub long : (d : Corner) → c ≡ Some d → lt CEPS d.lu ≡ true
   pub lines : (d : Corner) → c ≡ Some d → OnLine chords d.side_u d.lu × OnLine chords d.side_v d.lv
 
 -- both sides are longer than 1e-9 and finite, and they meet at an angle

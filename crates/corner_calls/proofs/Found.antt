@@ -15,6 +15,7 @@ use Rattle.std.specs.Option.{option_map_or}
 use Rattle.views.specs.View.{entry}
 use Rattle.views.proofs.Laws.{order, fill_more}
 use Rattle.views.proofs.Runs.{get_d_sets_out, get_d_sets_in}
+use Rattle.real.specs.Operators.{0f}
 use Rattle.path.specs.Shape.{count_of, closed_of, word_at, start, sub_of}
 use Rattle.corner.specs.declared.corner.Corner.{Corner}
 use Rattle.cut.specs.Places.{corner_at}
@@ -34,7 +35,7 @@ sub_at_lem (w ∷ ws) (suc s) i l h =
     let e : n + b + i - n ≡ b + i = omega arith in
     rw (le-ltb (n + b + i) n (omega arith), e) (ap suc (sub_at_lem ws s i (omega arith) h))
 
-corner_in : (shapes : List ℕ) (anchors : List Float) (s i : ℕ) → s < length shapes → i < count_of (word_at shapes s)
+pub corner_in : (shapes : List ℕ) (anchors : List Float) (s i : ℕ) → s < length shapes → i < count_of (word_at shapes s)
     → path_corner shapes anchors (start shapes s + i) ≡ corner_at (plain_view anchors (sub_at shapes s)) i
 unfolding path_corner
 corner_in shapes anchors s i l h = rw (sub_at_lem shapes s i l h, add-sub_cancel_left (start shapes s) i)
@@ -50,7 +51,7 @@ nine : (c : Corner) → length (corner_numbers c) ≡ 9
 unfolding corner_numbers
 nine c = refl
 
-pub number-of : (corner : ℕ → Option Corner) (ps : List ℕ) (i q : ℕ) → q < 9 → numbers_of corner ps (i * 9 + q) ≡ entry (option_map_or corner_numbers (corner (get_or ps i 0)) []) q
+pub number-of : (corner : ℕ → Option Corner) (ps : List ℕ) (i q : ℕ) → q < 9 → numbers_of corner ps (i * 9 + q) ≡ option_map_or (λ c. entry (corner_numbers c) q) (corner (get_or ps i 0)) 0f
 unfolding numbers_of
 number-of corner ps i q h =
     let d : (i * 9 + q) / 9 ≡ i = omega arith in
@@ -77,7 +78,7 @@ module _ (corner : ℕ → Option Corner) where
   -- a place more behind changes no number of those before
   numbers-before : (ps : List ℕ) (k j : ℕ) → j < length ps * 9 → numbers_of corner ps j ≡ numbers_of corner (ps ++ k ∷ []) j
   unfolding numbers_of
-  numbers-before ps k j l = ap (λ z. entry (option_map_or corner_numbers (corner z) []) (j % 9)) (sym (before_one ps k (j / 9) (omega arith)))
+  numbers-before ps k j l = ap (λ z. option_map_or (λ c. entry (corner_numbers c) (j % 9)) (corner z) 0f) (sym (before_one ps k (j / 9) (omega arith)))
 
   -- ---- before the first place
   pub holds-none : (at : List ℕ) (rows : List Float) → Holds corner 0 at rows 0

@@ -39,9 +39,9 @@ corner_places shapes anchors = found_below (path_corner shapes anchors) (total s
 unfoldable pub corner_numbers : Corner → List Float
 corner_numbers c = c.at.x ∷ c.at.y ∷ c.u.x ∷ c.u.y ∷ c.v.x ∷ c.v.y ∷ c.lu ∷ c.lv ∷ max_radius c ∷ []
 
--- number j of the corners at the places ps, nine each
+-- number j of the corners at the places ps, nine each; 0 where there is none
 unfoldable pub numbers_of : (ℕ → Option Corner) → List ℕ → ℕ → Float
-numbers_of corner ps j = entry (option_map_or corner_numbers (corner (get_or ps (j / 9) 0)) []) (j % 9)
+numbers_of corner ps j = option_map_or (λ c. entry (corner_numbers c) (j % 9)) (corner (get_or ps (j / 9) 0)) 0f
 
 -- xs with corner i's put to c's
 unfoldable pub put_corner : List Float → ℕ → Corner → List Float

@@ -3,12 +3,13 @@ use mathlib.Core.Path.{◌≡◌, refl, ap, sym, subst, ◌∙◌}
 use mathlib.Core.Bool.{Bool, true, false, ◌&&◌, cond}
 use Prim.Native.Nat.{ℕ, suc, ◌+◌, ◌≤◌, ◌<◌}
 use native.Mathlib.Omega.{arith}
-use lib.Ieee.{Float}
+use lib.Ieee.{Float, lt}
 use Rattle.std.proofs.Common.{Option, Some, None, option_map, List, get_or}
 use Rattle.std.specs.Option.{option_map_or}
 use Rattle.real.specs.Operators.{0f}
 use Rattle.real.specs.StandIns.{max}
 use Rattle.geom.specs.declared.point.P.{P}
+use Rattle.cubic.specs.Cubic.{CEPS}
 use Rattle.path.specs.declared.anchor.Anchor.{Anchor}
 use Rattle.path.specs.Anchor.{is_smooth}
 use Rattle.path.specs.Shape.{prev, next}
@@ -67,9 +68,9 @@ module _ (v : View) (i : ℕ) where
   abbrev pub after_side : Side
   after_side = side_after (v.anchor i) (v.anchor (next v.n i))
 
-  made : (c : Corner) → corner_at v i ≡ Some c → Made v.chords (v.anchor i).p before_side after_side c
+  pub corner-of : (c : Corner) → corner_at v i ≡ Some c → Made v.chords (v.anchor i).p before_side after_side c
   unfolding corner_at
-  made c = go (arrives v i && leaves v i)
+  corner-of c = go (arrives v i && leaves v i)
     where
       go : (b : Bool) → cond b (corner_of v.chords (v.anchor i) (v.anchor (prev v.n i)) (v.anchor (next v.n i))) None ≡ Some c
           → Made v.chords (v.anchor i).p before_side after_side c
@@ -80,15 +81,15 @@ module _ (v : View) (i : ℕ) where
   pub corner-made : (c : Corner) → corner_at v i ≡ Some c → (at du dv : P) (lu lv : Float) (su sv : Side) → at ≡ (v.anchor i).p → du ≡ c.u → dv ≡ c.v
       → su ≡ before_side → sv ≡ after_side → lu ≡ length_of v.chords su → lv ≡ length_of v.chords sv
       → corner_at v i ≡ Some (record { at = at; u = du; v = dv; lu = lu; lv = lv; side_u = su; side_v = sv })
-  corner-made c e at du dv lu lv su sv p q r s t x y = e ∙ ap Some (sym (rw (x, y, p, q, r, s, t) (made c e)))
+  corner-made c e at du dv lu lv su sv p q r s t x y = e ∙ ap Some (sym (rw (x, y, p, q, r, s, t) (corner-of c e)))
 
   -- its sides are those that the anchors give, and it is measured
   pub sides : (c : Corner) → corner_at v i ≡ Some c → (c.side_u ≡ before_side) × (c.side_v ≡ after_side)
-  sides c e = (sym (ap (λ (k : Corner). k.side_u) (made c e)), sym (ap (λ (k : Corner). k.side_v) (made c e)))
+  sides c e = (sym (ap (λ (k : Corner). k.side_u) (corner-of c e)), sym (ap (λ (k : Corner). k.side_v) (corner-of c e)))
 
   pub measured : (c : Corner) → corner_at v i ≡ Some c → with_lengths v.chords c ≡ c
   unfolding with_lengths
-  measured c e = subst (λ (k : Corner). with_lengths v.chords k ≡ k) (made c e) refl
+  measured c e = subst (λ (k : Corner). with_lengths v.chords k ≡ k) (corner-of c e) refl
 
   -- ---- what a row tells
   pub held-none : RowHeld v i None → corner_at v i ≡ None
@@ -114,6 +115,15 @@ module _ (v : View) (i : ℕ) where
           → Some r ≡ option_map (λ k. row_of k (v.radius i)) c → Known r
       go None m l e = let z : ◌≡◌ {A = ℕ} 0 1 = cc in absurd (omega arith)
       go (Some k) m l e = record { before = k; is = sym m; line_u = (l k refl).0; line_v = (l k refl).1; row = cc }
+
+  -- its first length is above 1e-9
+  pub row_long : (r : Row) → RowHeld v i (Some r) → lt CEPS r.lu ≡ true
+  unfolding row_of
+  row_long r h = go h.corner h.unmeasured.long h.is
+    where
+      go : (c : Option Corner) → ((d : Corner) → c ≡ Some d → lt CEPS d.lu ≡ true) → Some r ≡ option_map (λ k. row_of k (v.radius i)) c → lt CEPS r.lu ≡ true
+      go None l e = let z : ◌≡◌ {A = ℕ} 0 1 = cc in absurd (omega arith)
+      go (Some k) l e = let q : r ≡ row_of k (v.radius i) = cc in subst (λ (s : Row). lt CEPS s.lu ≡ true) (sym q) (l k refl)
 
   pub asked-held : (r : Option Row) → RowHeld v i r → asked_in r ≡ asked_at v i
   unfolding asked_in asked_at own_at row_of setback cos sin with_lengths
