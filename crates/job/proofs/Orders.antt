@@ -1,13 +1,15 @@
 -- Laws of the order of words: members of a list, the rows by cases, and what a word that is read has passed. Assumes nothing.
 use mathlib.Core.Path.{◌≡◌, refl, sym, ap, subst, ◌∙◌}
-use mathlib.Core.Logic.{◌⊎◌, ⊎_elim}
-use mathlib.Core.Bool.{Bool, true, false, not, ◌&&◌, ◌||◌, cond, or-false}
+use mathlib.Core.Logic.{◌⊎◌, ⊎_elim, inl, inr}
+use mathlib.Core.Bool.{Bool, true, false, not, ◌&&◌, ◌||◌, cond, or-true, or-false}
 use mathlib.Core.List.{List, [], ◌∷◌}
 use Prim.Native.Nat.{ℕ, ◌+◌, ◌/◌, ◌%◌, ◌≤◌, ◌<◌}
 use native.Mathlib.Omega.{arith}
 use lib.Dec.{ltb, eqb}
-use borrow.Author.Tests.{eqb-true, ltb-true, leb-false}
+use types.Run.{OneOf}
+use borrow.Author.Tests.{eq-eqb, ne_eqb, lt-ltb, le-ltb, eqb-true, ltb-true, leb-false}
 use Rattle.std.proofs.Common.{Option, Some, None, Ok, Err}
+use Rattle.std.specs.Result.{result_err}
 use Rattle.refusal.specs.declared.Reason.{Reason}
 use Rattle.refusal.specs.declared.Reason.TheVariants.{Unended, Misplaced, Empty, Full}
 use Rattle.job.specs.declared.order.Seen.{Seen}
@@ -17,6 +19,19 @@ use Rattle.job.specs.declared.kinds.Kind.TheVariants.{Head, Subpath, X, Y, InX, 
 use Rattle.job.specs.Kinds.{number_of_kind, kind_of}
 use Rattle.job.specs.Order.{member, Row, rows, after_in, is_whole, may_follow, payloads, is_full, last_of, refusal_of, unless, tested, count_subpath, count_anchor, shape_after, advance, Fair}
 
+-- ---- members of a list
+pub member_of : (xs : List ℕ) (x : ℕ) → OneOf xs x → member x xs ≡ true
+unfolding member
+member_of [] x h = absurd h
+member_of (y ∷ []) x h = rw (eq-eqb x y h)
+member_of (y ∷ z ∷ zs) x h = ⊎_elim (λ e. rw (eq-eqb x y e)) (λ k. rw (member_of (z ∷ zs) x k) (or-true (eqb x y))) h
+
+pub not-member : (xs : List ℕ) (x : ℕ) → (OneOf xs x → ⊥) → member x xs ≡ false
+unfolding member
+not-member [] x h = refl
+not-member (y ∷ []) x h = rw (ne_eqb x y h)
+not-member (y ∷ z ∷ zs) x h = rw (ne_eqb x y (λ e. h (inl e)), not-member (z ∷ zs) x (λ k. h (inr k)))
+
 -- ---- the row of each kind
 pub follows_all : (l k : ℕ) → (k ≡ 1) ⊎ (k ≡ 15) → may_follow l k ≡ (eqb l 0 || is_whole l)
 unfolding may_follow member after_in is_whole
@@ -25,6 +40,14 @@ follows_all l k o = ⊎_elim (λ e. rw e) (λ e. rw e) o
 pub follows_whole : (l k : ℕ) → k ≡ 2 → may_follow l k ≡ is_whole l
 unfolding may_follow member after_in is_whole
 follows_whole l k e = rw e
+
+pub follows_radius : (l k : ℕ) → k ≡ 8 → may_follow l k ≡ member l (3 ∷ 5 ∷ 7 ∷ [])
+unfolding may_follow member after_in
+follows_radius l k e = rw e
+
+pub follows_out : (l k : ℕ) → k ≡ 6 → may_follow l k ≡ (eqb l 3 || eqb l 5)
+unfolding may_follow member after_in
+follows_out l k e = rw (e, or-false)
 
 -- a kind that comes after one other
 pub follows_one : (l k n a : ℕ) → k ≡ n → after_in rows n ≡ a ∷ [] → may_follow l k ≡ eqb l a
@@ -103,6 +126,31 @@ kind_back OutY = refl
 kind_back Radius = refl
 kind_back End = refl
 
+-- ---- each refusal of a word
+module _ (s : Seen) (k v : ℕ) where
+  pub refused_1 : last_of s ≡ 15 → refusal_of s k v ≡ Some Unended
+  unfolding refusal_of
+  refused_1 e = rw (eq-eqb (last_of s) 15 e)
+
+  module _ (unended : last_of s ≡ 15 → ⊥) where
+    pub refused-order : may_follow (last_of s) k ≡ false → refusal_of s k v ≡ Some Misplaced
+    unfolding refusal_of
+    refused-order f = rw (ne_eqb (last_of s) 15 unended, f)
+
+    module _ (follows : may_follow (last_of s) k ≡ true) where
+      pub refused_payload : payloads (kind_of k) ≤ v → refusal_of s k v ≡ Some Misplaced
+      unfolding refusal_of
+      refused_payload h = rw (ne_eqb (last_of s) 15 unended, follows, le-ltb v (payloads (kind_of k)) h)
+
+      module _ (listed : v < payloads (kind_of k)) where
+        pub refused_full : (k ≡ 15 → ⊥) → refusal_of s k v ≡ cond (is_full s (kind_of k)) (Some Full) None
+        unfolding refusal_of
+        refused_full n = rw (ne_eqb (last_of s) 15 unended, follows, lt-ltb v (payloads (kind_of k)) listed, ne_eqb k 15 n)
+
+        pub refused_end : k ≡ 15 → refusal_of s k v ≡ cond (eqb s.subpaths 0) (Some Empty) None
+        unfolding refusal_of is_full kind_of
+        refused_end e = rw (ne_eqb (last_of s) 15 unended, follows, lt-ltb v (payloads (kind_of k)) listed, e)
+
 -- ---- a word that is read
 pub record Passed (s : Seen) (k v : ℕ) : Type 0 where
   pub unended : eqb (last_of s) 15 ≡ false
@@ -124,6 +172,12 @@ passed s k v = go (eqb (last_of s) 15) refl (may_follow (last_of s) k) refl (ltb
     go false ea true eb true ec true ed e ee h = cc
     go false ea true eb true ec false ed true ee h = cc
     go false ea true eb true ec false ed false ee h = record { unended = ea; follows = eb; listed = ec; begun = ed; roomy = ee }
+
+-- of a word or its refusal the refusal
+pub unless_err : {A : Type 0} (r : Option Reason) (x : A) → result_err (unless r x) ≡ r
+unfolding unless
+unless_err None x = refl
+unless_err (Some r) x = refl
 
 -- what the test of a word of the file has shown
 module _ (s : Seen) (w : ℕ) where
@@ -160,7 +214,7 @@ module _ (s : Seen) (k v : ℕ) (p : Passed s k v) where
   unfolding payloads is_full
   subpath_one e = (ltb-true v 2 (rw e at p.listed), leb-false 32 s.subpaths (rw e at p.roomy))
 
-  anchor_one : kind_of k ≡ X → s.anchors < 512
+  pub anchor_one : kind_of k ≡ X → s.anchors < 512
   unfolding is_full
   anchor_one e = leb-false 512 s.anchors (rw e at p.roomy)
 

@@ -90,9 +90,12 @@ unfoldable pub unless : {A : Type 0} → Option Reason → A → Result A Reason
 unless None a = Ok a
 unless (Some r) a = Err r
 
+abbrev pub worded : Seen → ℕ → ℕ → Result declared.Word Reason
+worded s k v = unless (refusal_of s k v) (record { kind = kind_of k; payload = v })
+
 unfoldable pub tested : Seen → ℕ → Result declared.Word Reason
 unfolding refusal_of unless kind_of
-tested s w = let p = split w in unless (refusal_of s p.kind p.payload) (record { kind = kind_of p.kind; payload = p.payload })
+tested s w = let p = split w in worded s p.kind p.payload
 
 -- ---- what has been read after it
 unfoldable pub head_after : Kind → ℕ → ℕ → ℕ

@@ -6,5 +6,5 @@ mod order;
 mod words;
 
 pub use kinds::{Kind, UnknownKind};
-pub use order::Seen;
+pub use order::{Seen, refusal_of};
 pub use words::{Word, number, word_at};

@@ -1,7 +1,7 @@
 // The order of a job's words: which may come, by the last one's kind and by how much has been read.
 ghost use Rattle.std.specs.Prelude.{◌≡◌, ◌&&◌, None, eqb, ltb};
 ghost use Rattle.job.specs.Kinds.{number_of_kind, last_number};
-ghost use Rattle.job.specs.Order.{is_whole, may_follow, payloads, is_full, last_of, refusal_of, tested, advance, start, Fair};
+ghost use Rattle.job.specs.Order.{is_whole, may_follow, payloads, is_full, last_of, refusal_of, worded, tested, advance, start, Fair};
 
 use crate::kinds::Kind;
 use crate::words::Word;
@@ -112,21 +112,18 @@ impl Seen {
         kind == Kind::End && self.subpaths == 0
     }
 
-    // A word of a file by its kind and payload, or why it is refused.
-    #[tactic(auto, using(crate::proofs::Orders::unknown, crate::proofs::Orders::kind_back), unfolding(crate::specs::Order::tested, crate::specs::Order::unless, crate::specs::Order::refusal_of))]
-    pub fn test(&self, bits: u32) -> Result<Word, Reason>
-        ensures { result ≡ tested self.now bits }
+    // A word of this kind and payload, whatever numbers they are, or why it is refused.
+    #[tactic(auto, using(crate::proofs::Orders::unknown, crate::proofs::Orders::kind_back), unfolding(crate::specs::Order::unless, crate::specs::Order::refusal_of))]
+    fn word(&self, kind: u32, payload: u32) -> Result<Word, Reason>
+        ensures { result ≡ worded self.now kind payload }
     {
         if self.is_ended() {
             return Err(Reason::Unended);
         }
-        let Ok(kind) = Kind::try_from(bits / 268435456) else {
+        let Ok(kind) = Kind::try_from(kind) else {
             return Err(Reason::Misplaced);
         };
-        let word = Word {
-            kind,
-            payload: bits % 268435456,
-        };
+        let word = Word { kind, payload };
         if !self.takes(word) {
             return Err(Reason::Misplaced);
         }
@@ -137,6 +134,14 @@ impl Seen {
             return Err(Reason::Full);
         }
         Ok(word)
+    }
+
+    // A word of a file by its kind and payload, or why it is refused.
+    #[tactic(auto, unfolding(crate::specs::Order::tested))]
+    pub fn test(&self, bits: u32) -> Result<Word, Reason>
+        ensures { result ≡ tested self.now bits }
+    {
+        self.word(bits / 268435456, bits % 268435456)
     }
 
     // Reads one word more, which has passed its test.
@@ -160,4 +165,12 @@ impl Seen {
             _ => {}
         }
     }
+}
+
+// The refusal that a word of this kind and payload meets, whatever numbers they are; none where it is read.
+#[tactic(auto, using(crate::proofs::Orders::unless_err))]
+pub fn refusal_of(seen: Seen, kind: u32, payload: u32) -> Option<Reason>
+    ensures { result ≡ refusal_of seen kind payload }
+{
+    seen.word(kind, payload).err()
 }

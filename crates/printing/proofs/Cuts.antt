@@ -104,6 +104,10 @@ module _ (shapes : List ℕ) (anchors radii : List Float) (kind : ℕ) (d : Draw
   ps_few : length ps ≤ 1024
   ps_few = omega (arith, count-is, outline_few shapes f, few)
 
+  -- room for it in 6,144 numbers
+  pub ps_room : length (cut_up_to (view_at shapes anchors radii d.way) (length shapes)) * 6 ≤ 6144
+  ps_room = omega (arith, ps_few)
+
   -- ---- by what build found
   module _ (numbers : List Float) (flags : List ℕ) (fit : cache_fits shapes numbers flags ≡ true) where
     verdict-is : build_verdict shapes anchors radii kind numbers flags ≡ cache_verdict (cached_in f) (total shapes)
@@ -114,7 +118,7 @@ module _ (shapes : List ℕ) (anchors radii : List Float) (kind : ℕ) (d : Draw
     unfolding drawing_text unless_bad cut_places
     bad_text k l = rw (d.known, places_fail (cached_in f) (total shapes) passes k l)
 
-    build_refuses : (why : Refusal) → build_answer shapes anchors radii kind numbers flags ≡ Err why → refused_text (number_of why.reason) why.place ≡ drawing_text shapes anchors radii kind
+    pub build_refuses : (why : Refusal) → build_answer shapes anchors radii kind numbers flags ≡ Err why → refused_text (number_of why.reason) why.place ≡ drawing_text shapes anchors radii kind
     unfolding build_answer outline_answer
     build_refuses why e =
         ⊎_elim
@@ -129,7 +133,7 @@ module _ (shapes : List ℕ) (anchors radii : List Float) (kind : ℕ) (d : Draw
         same_text k q = let z : refusal_at Made k ≡ why = cc in ap (λ w. refused_text (number_of w.reason) w.place) z
 
     -- none does
-    build-accepts : (x : Outline) → build_answer shapes anchors radii kind numbers flags ≡ Ok x
+    pub build-accepts : (x : Outline) → build_answer shapes anchors radii kind numbers flags ≡ Ok x
         → GoodBelow (cached_in f) (total shapes) × (build_verdict shapes anchors radii kind numbers flags ≡ accepted)
     unfolding build_answer outline_answer
     build-accepts x e =
@@ -152,7 +156,7 @@ module _ (shapes : List ℕ) (anchors radii : List Float) (kind : ℕ) (d : Draw
         as_made shapes anchors radii kind to_shapes to (total shapes) d.opens d.way d.known
         ∙ rw (places_pass (outline_in ps) (length ps) passes outline_good, holds_true 0 (room m (length ps) to_shapes to wide long))
 
-    cut-answer : cut_answer shapes anchors radii kind to_shapes to ≡ Ok (record { subpaths = m; anchors = length ps })
+    pub cut-answer : cut_answer shapes anchors radii kind to_shapes to ≡ Ok (record { subpaths = m; anchors = length ps })
     unfolding cut_answer outline_answer answering
     cut-answer = rw (cut_accepted, outline-is)
 
@@ -185,14 +189,14 @@ module _ (shapes : List ℕ) (anchors radii : List Float) (kind : ℕ) (d : Draw
         let fits : Fits (outline_words shapes f) 1024 (total (outline_words shapes f)) = record { words = omega arith; anchors = omega arith; count = refl } in
         path_opens 1024 _ _ _ (sym (path_good 1024 _ _ _ fits (omega arith) (rw total-is listed_good)))
 
-    cut_opens : PathOpens 1024 (take m (cut_shapes_left shapes anchors radii kind to_shapes to)) (cut_anchors_left shapes anchors radii kind to_shapes to) (total (take m (cut_shapes_left shapes anchors radii kind to_shapes to)))
+    pub cut_opens : PathOpens 1024 (take m (cut_shapes_left shapes anchors radii kind to_shapes to)) (cut_anchors_left shapes anchors radii kind to_shapes to) (total (take m (cut_shapes_left shapes anchors radii kind to_shapes to)))
     cut_opens = rw (words_left, anchors_left_lem) opened
 
     good_text : fitted (cut_text shapes anchors radii kind) ≡ drawing_text shapes anchors radii kind
     unfolding drawing_text unless_bad cut_places
     good_text = rw (d.known, places_pass (cached_in f) (total shapes) passes good)
 
-    cut-text : fitted (text_of (take m (cut_shapes_left shapes anchors radii kind to_shapes to)) (anchor_at (cut_anchors_left shapes anchors radii kind to_shapes to))) ≡ drawing_text shapes anchors radii kind
+    pub cut-text : fitted (text_of (take m (cut_shapes_left shapes anchors radii kind to_shapes to)) (anchor_at (cut_anchors_left shapes anchors radii kind to_shapes to))) ≡ drawing_text shapes anchors radii kind
     unfolding cut_text
     cut-text =
         ap₂ (λ ws xs. fitted (text_of ws (anchor_at xs))) words_left anchors_left_lem
@@ -202,6 +206,20 @@ module _ (shapes : List ℕ) (anchors radii : List Float) (kind : ℕ) (d : Draw
   -- ---- and what is put together of the cache that build left is that cut
   module _ (numbers : List Float) (flags : List ℕ) (fit : cache_fits shapes numbers flags ≡ true) (x : Outline) (e : build_answer shapes anchors radii kind numbers flags ≡ Ok x)
       (to_shapes : List ℕ) (to : List Float) (wide : m ≤ length to_shapes) (long : length ps * 6 ≤ length to) where
+    pub assembled-answer : assemble_answer shapes (build_numbers shapes anchors radii kind numbers flags) (build_flags shapes anchors radii kind numbers flags) to_shapes to
+        ≡ Ok (record { subpaths = length shapes; anchors = length (cut_up_to (view_at shapes anchors radii d.way) (length shapes)) })
+    assembled-answer =
+        let g = build-accepts numbers flags fit x e in
+        (assemble-built shapes anchors radii kind numbers flags g.1 to_shapes to).0 ∙ cut-answer g.0 to_shapes to wide long
+
+    pub assembled_opens : PathOpens 1024 (take (length shapes) (assemble_shapes shapes (build_numbers shapes anchors radii kind numbers flags) (build_flags shapes anchors radii kind numbers flags) to_shapes to))
+        (assemble_anchors shapes (build_numbers shapes anchors radii kind numbers flags) (build_flags shapes anchors radii kind numbers flags) to_shapes to)
+        (total (take (length shapes) (assemble_shapes shapes (build_numbers shapes anchors radii kind numbers flags) (build_flags shapes anchors radii kind numbers flags) to_shapes to)))
+    assembled_opens =
+        let g = build-accepts numbers flags fit x e in
+        let t = assemble-built shapes anchors radii kind numbers flags g.1 to_shapes to in
+        rw (t.1, t.2) (cut_opens g.0 to_shapes to wide long)
+
     pub assembled-text : fitted (text_of (take (length shapes) (assemble_shapes shapes (build_numbers shapes anchors radii kind numbers flags) (build_flags shapes anchors radii kind numbers flags) to_shapes to))
         (anchor_at (assemble_anchors shapes (build_numbers shapes anchors radii kind numbers flags) (build_flags shapes anchors radii kind numbers flags) to_shapes to))) ≡ drawing_text shapes anchors radii kind
     assembled-text =
@@ -222,22 +240,14 @@ module _ (shapes : List ℕ) (anchors radii : List Float) (kind : ℕ) (d : Draw
 
     module _ (x : Outline) (e : Ok x ≡ build_answer shapes anchors radii kind numbers flags) (to_shapes : List ℕ) (to : List Float) (wide : 32 ≤ length to_shapes) (long : 6144 ≤ length to)
         (kept : List Float) (marked : List ℕ) (kept_is : kept ≡ build_numbers shapes anchors radii kind numbers flags) (marked_is : marked ≡ build_flags shapes anchors radii kind numbers flags) where
-      good : GoodBelow (cached_in f) (total shapes)
-      good = (build-accepts numbers flags fit x (sym e)).0
-
       room_words : m ≤ length to_shapes
       room_words = omega (arith, d.opens.words)
 
       room_numbers : length ps * 6 ≤ length to
-      room_numbers = omega (arith, ps_few)
-
-      assembled : (assemble_answer shapes kept marked to_shapes to ≡ cut_answer shapes anchors radii kind to_shapes to)
-          × (assemble_shapes shapes kept marked to_shapes to ≡ cut_shapes_left shapes anchors radii kind to_shapes to)
-          × (assemble_anchors shapes kept marked to_shapes to ≡ cut_anchors_left shapes anchors radii kind to_shapes to)
-      assembled = rw (kept_is, marked_is) (assemble-built shapes anchors radii kind numbers flags (build-accepts numbers flags fit x (sym e)).1 to_shapes to)
+      room_numbers = omega (arith, ps_room)
 
       answer-is : assemble_answer shapes kept marked to_shapes to ≡ Ok (record { subpaths = m; anchors = length ps })
-      answer-is = assembled.0 ∙ cut-answer good to_shapes to room_words room_numbers
+      answer-is = rw (kept_is, marked_is) (assembled-answer numbers flags fit x (sym e) to_shapes to room_words room_numbers)
 
       pub never_refused : (why : Refusal) → Err why ≡ assemble_answer shapes kept marked to_shapes to → ⊥
       never_refused why q = differ why _ (q ∙ answer-is)
@@ -248,6 +258,6 @@ module _ (shapes : List ℕ) (anchors radii : List Float) (kind : ℕ) (d : Draw
           let z = same_outline (q ∙ answer-is) in
           record {
             few = rw z d.opens.words;
-            opens = rw (z, w, o, assembled.1, assembled.2) (cut_opens good to_shapes to room_words room_numbers);
+            opens = rw (z, w, o, kept_is, marked_is) (assembled_opens numbers flags fit x (sym e) to_shapes to room_words room_numbers);
             text = rw (z, w, o, kept_is, marked_is) (assembled-text numbers flags fit x (sym e) to_shapes to room_words room_numbers);
           }

@@ -33,7 +33,7 @@ use Rattle.session.proofs.Step.{Fine}
 use Rattle.session.proofs.Demand.{agreed}
 use Rattle.reporting.specs.Gathered.{held_text, GathersIn, Gathers}
 
-gathered_answer : (shapes : List ℕ) (numbers : List Float) (flags to_shapes : List ℕ) (to : List Float) → GathersIn shapes numbers flags to_shapes to
+pub gathered_answer : (shapes : List ℕ) (numbers : List Float) (flags to_shapes : List ℕ) (to : List Float) → GathersIn shapes numbers flags to_shapes to
     → assemble_answer shapes numbers flags to_shapes to ≡ Ok (record { subpaths = length shapes; anchors = length (held_outline shapes numbers flags) })
 unfolding assemble_answer outline_answer answering
 gathered_answer shapes numbers flags to_shapes to g = rw g.accepts
