@@ -74,6 +74,14 @@ new_bar tol i d v k =
     let rise : le (len d) (len v) ≡ true = rw (root-is-len d, root-is-len v) at (roots_rise (dot d d) (dot v v) (square-of d) (square-of v) k) in
     rw (not_above (len d) (len v) rise, and_false)
 
+pub taken-barred : (tol : Float) (b : Best) (i : ℕ) (d : P) → Barred tol b → Barred tol (taken tol b i d)
+unfolding taken
+taken-barred tol b i d h = go (counts tol b d) refl
+  where
+    go : (t : Bool) → counts tol b d ≡ t → Barred tol (taken tol b i d)
+    go false e = rw e h
+    go true e = rw e (new_bar tol i d)
+
 -- what the code's tests come to
 module _ (tol : Float) (b : Best) (i : ℕ) (d : P) (h : Barred tol b) where
   abbrev pub Taken : Best → Type 0

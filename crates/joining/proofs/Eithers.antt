@@ -8,7 +8,7 @@ use native.Mathlib.Omega.{arith}
 use lib.Dec.{leb}
 use lib.ListN.{length}
 use lib.Ieee.{Float}
-use borrow.Author.Tests.{leb-true, lt-ltb, le-ltb, le-leb}
+use borrow.Author.Tests.{leb-true, lt-ltb, le-ltb, le-leb, lt-leb}
 use Rattle.views.proofs.Laws.{order}
 use Rattle.path.specs.Limit.{anchor_in, first_bad}
 use Rattle.std.proofs.Common.{Some, None}
@@ -18,9 +18,16 @@ use Rattle.joining.specs.Call.{list_fits, either_in}
 
 -- ---- 7
 module _ (n : ℕ) (xs : List Float) where
-  pub fits : HoldsAnchors xs n → list_fits n xs ≡ true
+  pub too_many : 512 < n → list_fits n xs ≡ false
   unfolding list_fits
-  fits h = rw (le-leb n 512 h.few, le-leb (n * 6) (length xs) h.long)
+  too_many h = rw (lt-leb n 512 h)
+
+  pub by_length : n ≤ 512 → list_fits n xs ≡ leb (n * 6) (length xs)
+  unfolding list_fits
+  by_length h = rw (le-leb n 512 h)
+
+  pub fits : HoldsAnchors xs n → list_fits n xs ≡ true
+  fits h = by_length h.few ∙ le-leb (n * 6) (length xs) h.long
 
   pub fits_says : list_fits n xs ≡ true → HoldsAnchors xs n
   unfolding list_fits

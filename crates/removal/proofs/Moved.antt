@@ -32,7 +32,7 @@ pub at_past : (ys xs : List Float) (n k : ℕ) → n ≤ k → ((j : ℕ) → n 
 at_past ys xs n k l h =
     rw (h (k * 6) (omega arith), h (k * 6 + 1) (omega arith), h (k * 6 + 2) (omega arith), h (k * 6 + 3) (omega arith), h (k * 6 + 4) (omega arith), h (k * 6 + 5) (omega arith))
 
-put_one : (xs ys : List Float) (k : ℕ) (a b : Anchor) → ys ≡ put_anchor xs k a → a ≡ b → ys ≡ put_all xs k (b ∷ [])
+pub put_one : (xs ys : List Float) (k : ℕ) (a b : Anchor) → ys ≡ put_anchor xs k a → a ≡ b → ys ≡ put_all xs k (b ∷ [])
 unfolding put_all
 put_one xs ys k a b e f = e ∙ ap (put_anchor xs k) f
 

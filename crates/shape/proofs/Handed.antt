@@ -19,6 +19,7 @@ use Rattle.refusal.specs.Order.{passes, holds, judge, first_failing, accepted, r
 use Rattle.refusal.proofs.Verdicts.{holds_false, by_arguments}
 use Rattle.path.specs.declared.anchor.Anchor.{Anchor}
 use Rattle.path.specs.Anchor.{without_handles}
+use Rattle.path.specs.Shape.{total, word_of}
 use Rattle.path.specs.Flat.{nth, put_anchor, put_all, listed}
 use Rattle.path.proofs.Puts.{put_next, put-listed}
 use Rattle.path.specs.Limit.{anchor_good}
@@ -27,6 +28,12 @@ use Rattle.call.specs.Tests.{outline_in, outline_limit, room_for}
 use Rattle.call.proofs.Openings.{places_fail, places_pass}
 use Rattle.call.proofs.Handings.{outline-refused, list_kept, anchors_kept}
 use Rattle.shape.specs.Calls.{shape_verdict, shape_answer, shape_word, shape_numbers}
+
+-- the anchors that the word of one subpath calls for
+pub total_one : (n : ℕ) (closed : Bool) → n ≤ 8 → total (word_of n closed ∷ []) ≡ n
+unfolding word_of
+total_one n true h = omega arith
+total_one n false h = omega arith
 
 module _ (ps : List Anchor) (to_shapes : List ℕ) (to : List Float) where
   -- an argument beyond the limit
